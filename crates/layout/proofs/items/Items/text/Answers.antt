@@ -1,0 +1,30 @@
+use Prim.Native.Nat.{_-_}
+use native.Mathlib.Omega.{arith}
+use mathlib.Core.Path.{_≡_, refl, sym, _∙_, ap}
+use Rattle.std.proofs.shelf.Lists.{take-rest}
+use Rattle.layout.specs.Items.{nth, text-of}
+use Rattle.layout.specs.Stepping.{Shows, pending}
+use Rattle.layout.proofs.Splitting.{nth-next, nth-none, nth-here}
+use Rattle.layout.proofs.items.Items.text.Needs as need
+
+pub loop-holds : need.loop-holds
+loop-holds c = let e : c .args .k - 0 ≡ c .args .k = omega arith in rw e refl
+
+pub returns-in-Break-next-item : need.returns-in-Break-next-item
+returns-in-Break-next-item c =
+    rw (c .from-residual .ensures)
+    (ap text-of (c .loop .inv ∙ nth-none _ (c .args .k - c .loop .counter) (c .in-Break-next-item .ensures tt .0)))
+
+pub loop-again : need.loop-again
+loop-again c =
+    c .loop .inv ∙ nth-next _ _ _ (c .args .k) (c .loop .counter) (omega arith) (c .in-Continue-next-item .ensures tt .0)
+
+pub returns-in-Break-item : need.returns-in-Break-item
+returns-in-Break-item c =
+    rw (c .from-residual-in-Break-item .ensures)
+    (ap text-of (c .loop .inv ∙ nth-none _ (c .args .k - c .loop .counter) (c .in-Break-item .ensures tt .0)))
+
+pub returns : need.returns
+returns c =
+    rw (take-rest (c .in-Continue-item .item .now) 1)
+    (ap text-of (c .loop .inv ∙ nth-here _ _ _ (c .args .k - c .loop .counter) (omega arith) (c .in-Continue-item .ensures tt .0)))
