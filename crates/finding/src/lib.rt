@@ -25,8 +25,7 @@ pub trait Numbered {
 impl<C> Finding<C> {
     /// A cause found at a place.
     pub fn new(place: u32, cause: C) -> Finding<C>
-        ensures place { λ r. ⌜ r .place ≡ place ⌝ }
-        ensures cause { λ r. ⌜ r .cause ≡ cause ⌝ }
+        ensures { λ r. ⌜ r ≡ record { place = place; cause = cause } ⌝ }
     {
         Finding { place, cause }
     }

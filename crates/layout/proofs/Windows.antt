@@ -27,3 +27,10 @@ window-cut bs at size from to p q =
             | inr fits ↦ let s : to - from ≡ size = omega arith in ap (λ k. take k (drop from bs)) s ∙ ap (λ k. take size (drop k bs)) a
           ]
     ]
+
+pub drop-min : (bs : List ℕ) (n from : ℕ) → from ≡ min (length bs) n → drop from bs ≡ drop n bs
+drop-min bs n from p =
+    elim (cases-lt (length bs) n) [
+      | inl past ↦ drop-all from bs (omega arith) ∙ sym (drop-all n bs (omega arith))
+      | inr le ↦ let a : from ≡ n = omega arith in ap (λ k. drop k bs) a
+    ]

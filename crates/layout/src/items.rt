@@ -2,8 +2,8 @@
 ghost use mathlib.Core.Path.{_≡_};
 ghost use lib.ListN.{length};
 ghost use Rattle.layout.specs.Head.{name-body};
-ghost use Rattle.layout.specs.Items.{split, text-at};
-ghost use Rattle.layout.specs.Stepping.{Stepped, Shows, pending};
+ghost use Rattle.layout.specs.Items.{split, text, text-at};
+ghost use Rattle.layout.specs.Readers.{Stepped, Shows, pending};
 
 /// How many items of a body are looked at: one more than there may be.
 const MOST: u16 = 256;
@@ -60,6 +60,14 @@ impl<'a> Items<'a> {
             self.next_item()?;
         }
         let item = self.next_item()?;
-        Some(&item[1..])
+        Some(text_of(item))
     }
+}
+
+/// What an item says: its bytes after the length byte.
+pub fn text_of(item: &[u8]) -> &[u8]
+    ensures { λ r. ⌜ now r ≡ text (now (item .entry)) ⌝ }
+{
+    let from = item.len().min(1);
+    &item[from..]
 }

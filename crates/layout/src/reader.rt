@@ -8,7 +8,7 @@ ghost use lib.ListN.{length};
 ghost use Rattle.layout.specs.Head.{contents, part, body-at, node-body, name-body, string-body};
 ghost use Rattle.layout.specs.Items.{names, strings, text-at};
 ghost use Rattle.layout.specs.Nodes.{count, node-record, node-at};
-ghost use Rattle.layout.specs.Stepping.{pending, Shows};
+ghost use Rattle.layout.specs.Readers.{file-of, pending, Shows};
 use crate::bytes::cut;
 use crate::bytes::u32_at;
 use crate::items::Items;
@@ -38,21 +38,21 @@ pub struct Reader<'a> {
 impl<'a> Reader<'a> {
     /// A reader over the file.
     pub fn over(file: &'a [u8]) -> Reader<'a>
-        ensures { λ r. ⌜ now (r .file) ≡ now (file .entry) ⌝ }
+        ensures { λ r. ⌜ file-of r ≡ now (file .entry) ⌝ }
     {
         Reader { file }
     }
 
     /// The file itself.
     pub fn file(&self) -> &'a [u8]
-        ensures { λ r. ⌜ now r ≡ now (now (self .entry) .file) ⌝ }
+        ensures { λ r. ⌜ now r ≡ file-of (now (self .entry)) ⌝ }
     {
         self.file
     }
 
     /// The contents as the head tells them, true or not.
     pub fn contents(&self) -> Contents
-        ensures { λ r. ⌜ r ≡ contents (now (now (self .entry) .file)) ⌝ }
+        ensures { λ r. ⌜ r ≡ contents (file-of (now (self .entry))) ⌝ }
     {
         Contents {
             nodes: part_at(self.file, 4),
@@ -63,70 +63,70 @@ impl<'a> Reader<'a> {
 
     /// The node records, as one window.
     pub fn node_body(&self) -> &'a [u8]
-        ensures { λ r. ⌜ now r ≡ node-body (now (now (self .entry) .file)) ⌝ }
+        ensures { λ r. ⌜ now r ≡ node-body (file-of (now (self .entry))) ⌝ }
     {
         body_at(self.file, 4)
     }
 
     /// The names with their length bytes, as one window.
     pub fn name_body(&self) -> &'a [u8]
-        ensures { λ r. ⌜ now r ≡ name-body (now (now (self .entry) .file)) ⌝ }
+        ensures { λ r. ⌜ now r ≡ name-body (file-of (now (self .entry))) ⌝ }
     {
         body_at(self.file, 12)
     }
 
     /// The strings with their length bytes, as one window.
     pub fn string_body(&self) -> &'a [u8]
-        ensures { λ r. ⌜ now r ≡ string-body (now (now (self .entry) .file)) ⌝ }
+        ensures { λ r. ⌜ now r ≡ string-body (file-of (now (self .entry))) ⌝ }
     {
         body_at(self.file, 20)
     }
 
     /// How many whole node records there are.
     pub fn node_count(&self) -> usize
-        ensures { λ r. ⌜ r ≡ count (node-body (now (now (self .entry) .file))) ⌝ }
+        ensures { λ r. ⌜ r ≡ count (node-body (file-of (now (self .entry)))) ⌝ }
     {
         self.node_body().len() / 16
     }
 
     /// The 16 bytes of node `i`.
     pub fn record(&self, i: usize) -> Option<&'a [u8]>
-        ensures { λ r. ⌜ Shows r (node-record (node-body (now (now (self .entry) .file))) i) ⌝ }
+        ensures { λ r. ⌜ Shows r (node-record (node-body (file-of (now (self .entry)))) i) ⌝ }
     {
         record_of(self.node_body(), i)
     }
 
     /// The fields of node `i`; none where there is no such node or its kind is unknown.
     pub fn node(&self, i: usize) -> Option<Node>
-        ensures { λ r. ⌜ r ≡ node-at (node-body (now (now (self .entry) .file))) i ⌝ }
+        ensures { λ r. ⌜ r ≡ node-at (node-body (file-of (now (self .entry)))) i ⌝ }
     {
         Node::decode(self.record(i)?)
     }
 
     /// The names, each with its length byte.
     pub fn names(&self) -> Items<'a>
-        ensures { λ r. ⌜ pending r ≡ names (now (now (self .entry) .file)) ⌝ }
+        ensures { λ r. ⌜ pending r ≡ names (file-of (now (self .entry))) ⌝ }
     {
         Items::of(self.name_body())
     }
 
     /// The strings, each with its length byte.
     pub fn strings(&self) -> Items<'a>
-        ensures { λ r. ⌜ pending r ≡ strings (now (now (self .entry) .file)) ⌝ }
+        ensures { λ r. ⌜ pending r ≡ strings (file-of (now (self .entry))) ⌝ }
     {
         Items::of(self.string_body())
     }
 
     /// The bytes of name `k`.
     pub fn name(&self, k: u32) -> Option<&'a [u8]>
-        ensures { λ r. ⌜ Shows r (text-at (names (now (now (self .entry) .file))) k) ⌝ }
+        ensures { λ r. ⌜ Shows r (text-at (names (file-of (now (self .entry)))) k) ⌝ }
     {
         self.names().text(k)
     }
 
     /// The bytes of string `k`.
     pub fn string(&self, k: u32) -> Option<&'a [u8]>
-        ensures { λ r. ⌜ Shows r (text-at (strings (now (now (self .entry) .file))) k) ⌝ }
+        ensures { λ r. ⌜ Shows r (text-at (strings (file-of (now (self .entry)))) k) ⌝ }
     {
         self.strings().text(k)
     }

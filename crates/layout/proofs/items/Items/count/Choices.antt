@@ -1,7 +1,7 @@
 use Prim.Native.Nat.{_+_}
 use mathlib.Core.Path.{_≡_}
 use lib.ListN.{length}
-use Rattle.layout.specs.Stepping.{pending}
+use Rattle.layout.specs.Readers.{pending}
 use Rattle.layout.proofs.items.Items.count.Given as given
 
 abbrev pub Inv-loop-n : given.InvT-loop-n

@@ -1,9 +1,8 @@
 use Prim.Native.Nat.{_-_}
 use native.Mathlib.Omega.{arith}
 use mathlib.Core.Path.{_≡_, refl, sym, _∙_, ap}
-use Rattle.std.proofs.shelf.Lists.{take-rest}
 use Rattle.layout.specs.Items.{nth, text-of}
-use Rattle.layout.specs.Stepping.{Shows, pending}
+use Rattle.layout.specs.Readers.{Shows, pending}
 use Rattle.layout.proofs.Splitting.{nth-next, nth-none, nth-here}
 use Rattle.layout.proofs.items.Items.text.Needs as need
 
@@ -26,5 +25,5 @@ returns-in-Break-item c =
 
 pub returns : need.returns
 returns c =
-    rw (take-rest (c .in-Continue-item .item .now) 1)
+    rw (c .text-of .ensures)
     (ap text-of (c .loop .inv ∙ nth-here _ _ _ (c .args .k - c .loop .counter) (omega arith) (c .in-Continue-item .ensures tt .0)))

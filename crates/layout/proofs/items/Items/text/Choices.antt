@@ -1,7 +1,7 @@
 use Prim.Native.Nat.{_-_}
 use mathlib.Core.Path.{_≡_}
 use Rattle.layout.specs.Items.{nth}
-use Rattle.layout.specs.Stepping.{pending}
+use Rattle.layout.specs.Readers.{pending}
 use Rattle.layout.proofs.items.Items.text.Given as given
 
 abbrev pub Inv-loop : given.InvT-loop

@@ -1,4 +1,4 @@
--- What is still to come of a row of items, and what a window shows.
+-- What a reader and a row of items stand for, and what a window shows.
 use Prim.Native.Nat.{ℕ, _<_}
 use mathlib.Core.Path.{_≡_}
 use mathlib.Core.List.{List, [], _∷_}
@@ -8,7 +8,13 @@ use Rattle.std.specs.declared.option.Option.{Option}
 use Rattle.std.specs.declared.option.Option.the-variants.{Some, None}
 use Rattle.layout.specs.Items.{items}
 use Rattle.layout.specs.declared.items.Items.{Items}
+use Rattle.layout.specs.declared.reader.Reader.{Reader}
 
+-- The bytes of the file that a reader is over.
+abbrev pub file-of : Reader → List ℕ
+file-of r = r .file .now
+
+-- The items that are still to come.
 abbrev pub pending : Items → List (List ℕ)
 pending it = items (it .left) (it .rest .now)
 
