@@ -12,7 +12,7 @@ pub fn byte(bytes: &[u8], at: usize) -> u8
 }
 
 /// The number of two bytes.
-pub(crate) fn u16_at(bytes: &[u8], at: u32) -> u16
+pub fn u16_at(bytes: &[u8], at: u32) -> u16
     ensures { λ r. ⌜ r ≡ le16 (now (bytes .entry)) at ⌝ }
 {
     let at = at as usize;

@@ -1,0 +1,2 @@
+// The nodes of a file: their fields, and the tree that their sizes make.
+mod sizes;
