@@ -74,11 +74,11 @@ shape Len = []
 shape Binary = one class.Expression ∷ one class.Expression ∷ []
 shape Text = []
 
--- What is left of the slots when this one has taken a child.
-abbrev pub taken : Times → Slot → List Slot → List Slot
-taken times.One s rest = rest
-taken times.Perhaps s rest = rest
-taken times.Many s rest = s ∷ rest
+-- A slot that has taken a child and takes another.
+abbrev pub again : Times → Bool
+again times.One = false
+again times.Perhaps = false
+again times.Many = true
 
 -- A slot that asks for a child.
 abbrev pub asks : Times → Bool
@@ -90,7 +90,7 @@ asks times.Many = false
 abbrev pub filled : List Slot → ℕ → Option (List Slot)
 filled [] k = None
 filled (s ∷ rest) k =
-    cond (of-class (s .class) k) (Some (taken (s .times) s rest)) (cond (asks (s .times)) None (filled rest k))
+    cond (of-class (s .class) k) (Some (cond (again (s .times)) (s ∷ rest) rest)) (cond (asks (s .times)) None (filled rest k))
 
 -- No slot that is left asks for a child.
 abbrev pub content : List Slot → Bool

@@ -1,2 +1,3 @@
 // The nodes of a file: their fields, and the tree that their sizes make.
+mod children;
 mod sizes;

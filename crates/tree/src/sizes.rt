@@ -1,7 +1,7 @@
 // The sizes of the nodes and their depths: one pass each, with a stack of the nodes around.
 ghost use mathlib.Core.Bool.{_||_};
 ghost use mathlib.Core.Path.{_≡_};
-ghost use Prim.Native.Nat.{_+_, _-_, _<_, _≤_};
+ghost use Prim.Native.Nat.{_+_, _-_, _^_, _<_, _≤_};
 ghost use lib.Dec.{leb, ltb};
 ghost use lib.ListN.{length, getD};
 ghost use Rattle.std.specs.declared.option.Option.the-variants.{None};
@@ -19,8 +19,9 @@ const DEEPEST: usize = 64;
 
 /// One past the last node that node i spans.
 pub(crate) fn end(nodes: &[u8], i: usize) -> usize
-    requires { ⌜ i < 1024 ⌝ }
-    ensures { λ r. ⌜ r ≡ end-of (now (nodes .entry)) i ⌝ }
+    requires { ⌜ i < 2 ^ 20 ⌝ }
+    ensures value { λ r. ⌜ r ≡ end-of (now (nodes .entry)) i ⌝ }
+    ensures bound { λ r. ⌜ r < i + 65536 ⌝ }
 {
     i + u16_at(nodes, 16 * i as u32 + 4) as usize
 }

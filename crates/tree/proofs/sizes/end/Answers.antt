@@ -4,4 +4,4 @@ use Rattle.tree.proofs.sizes.end.Needs as need
 
 pub returns : need.returns
 unfolding end-of
-returns c = search needs
+returns c = record { value = search needs; bound = search needs }
