@@ -50,7 +50,7 @@ pub(crate) fn i64_at(bytes: &[u8], at: u32) -> i64
 }
 
 /// The window of `size` bytes from `at` on, cut at the end.
-pub(crate) fn cut(bytes: &[u8], at: u32, size: u32) -> &[u8]
+pub fn cut(bytes: &[u8], at: u32, size: u32) -> &[u8]
     ensures { λ r. ⌜ now r ≡ window (now (bytes .entry)) at size ⌝ }
 {
     let from = bytes.len().min(at as usize);

@@ -1,3 +1,4 @@
 // The nodes of a file: their fields, and the tree that their sizes make.
 mod children;
+pub mod faults;
 mod sizes;
