@@ -100,7 +100,11 @@ fn value_fits(rule: Value, tag: u8, strings: u32, value: i64) -> bool
 fn name_fits(named: bool, name: u8, names: u32) -> bool
     ensures { λ r. ⌜ r ≡ cond named (ltb name names) (eqb name 0) ⌝ }
 {
-    if named { (name as u32) < names } else { name == 0 }
+    if named {
+        (name as u32) < names
+    } else {
+        name == 0
+    }
 }
 
 fn row_fits(row: Fields, names: u32, strings: u32, bytes: &[u8]) -> bool

@@ -61,50 +61,62 @@ const IMPORTS: Slot = Slot {
     class: Class::Import,
     times: Times::Many,
 };
+
 const DECLARATIONS: Slot = Slot {
     class: Class::Declaration,
     times: Times::Many,
 };
+
 const METHODS: Slot = Slot {
     class: Class::Method,
     times: Times::Many,
 };
+
 const PARAMETERS: Slot = Slot {
     class: Class::Parameter,
     times: Times::Many,
 };
+
 const STATEMENTS: Slot = Slot {
     class: Class::Statement,
     times: Times::Many,
 };
+
 const BLOCK: Slot = Slot {
     class: Class::Block,
     times: Times::One,
 };
+
 const SECOND_BLOCK: Slot = Slot {
     class: Class::Block,
     times: Times::Perhaps,
 };
+
 const LOCATION: Slot = Slot {
     class: Class::Location,
     times: Times::One,
 };
+
 const EXPRESSION: Slot = Slot {
     class: Class::Expression,
     times: Times::One,
 };
+
 const RESULT: Slot = Slot {
     class: Class::Expression,
     times: Times::Perhaps,
 };
+
 const CALL: Slot = Slot {
     class: Class::Call,
     times: Times::One,
 };
+
 const UPDATE: Slot = Slot {
     class: Class::Update,
     times: Times::One,
 };
+
 const ARGUMENT: Slot = Slot {
     class: Class::Argument,
     times: Times::Perhaps,

@@ -1,0 +1,4 @@
+pub mod Judging
+pub mod Parts
+pub mod Local
+pub mod Sound

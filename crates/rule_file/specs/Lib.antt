@@ -1,1 +1,3 @@
+pub mod Verdict
+pub mod WellFormed
 pub mod Worked
