@@ -2,3 +2,4 @@ pub mod Judging
 pub mod Parts
 pub mod Local
 pub mod Sound
+pub mod Cases

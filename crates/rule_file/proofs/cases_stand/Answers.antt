@@ -1,12 +1,23 @@
-use mathlib.Core.Path.{refl}
-use Rattle.layout.specs.Head.{body-at}
-use Rattle.layout.specs.Items.{split}
-use Rattle.layout.specs.Texts.{keyword}
-use Rattle.layout.specs.Tree.{parent, ancestors, depth, children, bad-size, too-deep}
-use Rattle.layout.specs.Faults.{end-of, children-fit}
-use Rattle.finding.specs.Search.{lowest}
+use Rattle.rule_file.proofs.Cases as cases
 use Rattle.rule_file.proofs.cases_stand.Needs as need
 
 pub returns : need.returns
-unfolding body-at split keyword parent ancestors depth children bad-size too-deep end-of children-fit lowest
-returns c = record { good-head = refl; good-text = refl; good-node = refl }
+returns c =
+    record {
+      micron-size = cases.micron-size;
+      micron-good = cases.micron-good;
+      empty-good = cases.empty-good;
+      half-a-head = cases.half-a-head;
+      other-edition = cases.other-edition;
+      half-written = cases.half-written;
+      without-nodes = cases.without-nodes;
+      name-cut-off = cases.name-cut-off;
+      keyword-as-name = cases.keyword-as-name;
+      same-name-twice = cases.same-name-twice;
+      bell = cases.bell;
+      unknown-type = cases.unknown-type;
+      past-its-parent = cases.past-its-parent;
+      step-of-two = cases.step-of-two;
+      too-deep-a-node = cases.too-deep-a-node;
+      field-before-size = cases.field-before-size;
+    }
