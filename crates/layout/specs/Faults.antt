@@ -12,17 +12,17 @@ use Rattle.std.specs.declared.option.Option.{Option}
 use Rattle.std.specs.declared.option.Option.the-variants.{Some, None}
 use Rattle.finding.specs.Search.{lowest}
 use Rattle.finding.specs.declared.Finding.{Finding}
-use Rattle.layout.specs.Bytes.{byte, window, le16}
-use Rattle.layout.specs.Kinds.{kind-of}
+use Rattle.nodes.specs.Bytes.{byte, window, le16}
+use Rattle.nodes.specs.Kinds.{kind-of}
 use Rattle.layout.specs.Head.{contents, node-body, sized, edition-one, contiguous, counted}
 use Rattle.layout.specs.Items.{names, strings}
 use Rattle.layout.specs.Texts.{among, bad-name-length, bad-name, bad-string}
-use Rattle.layout.specs.Nodes.{count}
-use Rattle.layout.specs.Fields.{bad-fields}
-use Rattle.layout.specs.Tree.{children, bad-size, too-deep}
-use Rattle.layout.specs.Shapes.{shape, fill}
-use Rattle.layout.specs.declared.kind.Kind.{Kind}
-use Rattle.layout.specs.declared.shape.Slot.{Slot}
+use Rattle.nodes.specs.Nodes.{count}
+use Rattle.nodes.specs.Fields.{bad-fields}
+use Rattle.nodes.specs.Tree.{children, bad-size, too-deep}
+use Rattle.nodes.specs.Shapes.{shape, fill}
+use Rattle.nodes.specs.declared.kind.Kind.{Kind}
+use Rattle.nodes.specs.declared.shape.Slot.{Slot}
 use Rattle.layout.specs.declared.fault.FileFault.{FileFault}
 use Rattle.layout.specs.declared.fault.FileFault.the-variants.{FileSize, Edition, BodyOrder, NodeCount, NameLength, NameText, NameRepeated, StringText, NodeFields, NodeSize, NodeChildren, NodeDepth}
 

@@ -7,7 +7,7 @@ use mathlib.Core.Bool.{Bool, _&&_}
 use mathlib.Core.List.{List}
 use lib.Dec.{eqb, leb}
 use lib.ListN.{length}
-use Rattle.layout.specs.Bytes.{byte, le32, window}
+use Rattle.nodes.specs.Bytes.{byte, le32, window}
 use Rattle.layout.specs.declared.reader.Part.{Part}
 use Rattle.layout.specs.declared.reader.Contents.{Contents}
 

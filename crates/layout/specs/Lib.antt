@@ -1,11 +1,5 @@
-pub mod Bytes
-pub mod Kinds
 pub mod Head
 pub mod Items
 pub mod Texts
-pub mod Fields
-pub mod Tree
-pub mod Shapes
-pub mod Nodes
 pub mod Readers
 pub mod Faults

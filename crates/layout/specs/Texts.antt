@@ -7,7 +7,7 @@ use lib.Dec.{eqb, ltb}
 use lib.ListN.{getD}
 use Rattle.std.specs.shelf.Text.{sameBytes}
 use Rattle.layout.specs.Items.{text, cut-off}
-use Rattle.layout.specs.Kinds.{between}
+use Rattle.nodes.specs.Kinds.{between}
 
 abbrev pub all : (ℕ → Bool) → List ℕ → Bool
 all test [] = true

@@ -1,9 +1,4 @@
-// The rule file.
-pub mod bytes;
+// The rule file: the reader over it, and the faults that it can have.
 pub mod fault;
-pub mod fields;
 pub mod items;
-pub mod kind;
-pub mod node;
 pub mod reader;
-pub mod shape;

@@ -7,12 +7,12 @@ ghost use Prim.Native.Nat.{_≤_};
 ghost use lib.ListN.{length};
 ghost use Rattle.layout.specs.Head.{contents, part, body-at, node-body, name-body, string-body};
 ghost use Rattle.layout.specs.Items.{names, strings, text-at};
-ghost use Rattle.layout.specs.Nodes.{count, node-record, node-at};
+ghost use Rattle.nodes.specs.Nodes.{count, node-record, node-at};
 ghost use Rattle.layout.specs.Readers.{file-of, pending, Shows};
-use crate::bytes::cut;
-use crate::bytes::u32_at;
+use nodes::bytes::cut;
+use nodes::bytes::u32_at;
 use crate::items::Items;
-use crate::node::Node;
+use nodes::node::Node;
 
 /// Where a body lies in the file, as the contents tell it.
 #[derive(Clone, Copy, PartialEq, Eq, Debug)]

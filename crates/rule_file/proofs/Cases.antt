@@ -9,7 +9,7 @@ use Rattle.finding.specs.Search.{lowest}
 use Rattle.layout.specs.Head.{body-at}
 use Rattle.layout.specs.Items.{split}
 use Rattle.layout.specs.Texts.{keyword}
-use Rattle.layout.specs.Tree.{parent, depth, children, bad-size, too-deep}
+use Rattle.nodes.specs.Tree.{parent, depth, children, bad-size, too-deep}
 use Rattle.layout.specs.Faults.{end-of, children-fit}
 use Rattle.layout.specs.declared.fault.FileFault.the-variants.{FileSize, Edition, BodyOrder, NodeCount, NameLength, NameText, NameRepeated, StringText, NodeFields, NodeSize, NodeChildren, NodeDepth}
 use Rattle.rule_file.specs.Verdict.{first-fault}

@@ -14,17 +14,17 @@ use Rattle.std.proofs.shelf.Tests.{cases-lt}
 use Rattle.std.specs.shelf.Text.{sameBytes}
 use Rattle.std.specs.declared.option.Option.{Option}
 use Rattle.std.specs.declared.option.Option.the-variants.{Some, None}
-use Rattle.layout.specs.Bytes.{byte, window, le16, le64}
-use Rattle.layout.specs.Kinds.{number, numbered, kinds, kind-of, between}
+use Rattle.nodes.specs.Bytes.{byte, window, le16, le64}
+use Rattle.nodes.specs.Kinds.{number, numbered, kinds, kind-of, between}
 use Rattle.layout.specs.Items.{items, split, text, cut-off}
 use Rattle.layout.specs.Texts.{among, identifier, keyword, all, string-byte, size-of, misfit, bad-name, bad-string}
-use Rattle.layout.specs.Nodes.{count, node-record, with-kind, decoded, node-at}
-use Rattle.layout.specs.Fields.{fields, value-fits, fits, kind-fits, bad-fields}
-use Rattle.layout.specs.Tree.{children}
-use Rattle.layout.specs.Shapes.{shape, fill}
+use Rattle.nodes.specs.Nodes.{count, node-record, with-kind, decoded, node-at}
+use Rattle.nodes.specs.Fields.{fields, value-fits, fits, kind-fits, bad-fields}
+use Rattle.nodes.specs.Tree.{children}
+use Rattle.nodes.specs.Shapes.{shape, fill}
 use Rattle.layout.specs.Faults.{end-of, kind-byte, slots, children-fit, bad-children}
-use Rattle.layout.specs.declared.kind.Kind.{Kind}
-use Rattle.layout.specs.declared.node.Node.{Node}
+use Rattle.nodes.specs.declared.kind.Kind.{Kind}
+use Rattle.nodes.specs.declared.node.Node.{Node}
 use Rattle.rule_file.proofs.Parts.{not-false, both}
 
 pub neither : (a b : Bool) → (a || b) ≡ false → (a ≡ false) × (b ≡ false)

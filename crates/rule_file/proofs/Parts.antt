@@ -9,10 +9,10 @@ use lib.ListN.{length, take, drop, length-drop, take-append-drop}
 use borrow.Author.Tests.{eqb-true, leb-true, le-leb}
 use Rattle.std.proofs.shelf.Lists.{take-all, drop-drop, length-take-le}
 use Rattle.std.specs.declared.option.Option.the-variants.{None}
-use Rattle.layout.specs.Bytes.{window}
+use Rattle.nodes.specs.Bytes.{window}
 use Rattle.layout.specs.Head.{part, contents, body-at, node-body, name-body, string-body, sized, contiguous, counted}
-use Rattle.layout.specs.Kinds.{between}
-use Rattle.layout.specs.Nodes.{count}
+use Rattle.nodes.specs.Kinds.{between}
+use Rattle.nodes.specs.Nodes.{count}
 
 pub not-false : (b : Bool) → not b ≡ false → b ≡ true
 not-false true h = refl

@@ -11,16 +11,16 @@ use borrow.Author.Tests.{eqb-true, lt-ltb}
 use Rattle.std.proofs.shelf.Tests.{cases-lt}
 use Rattle.std.specs.declared.option.Option.{Option}
 use Rattle.std.specs.declared.option.Option.the-variants.{Some, None}
-use Rattle.layout.specs.Bytes.{byte, window, le16}
+use Rattle.nodes.specs.Bytes.{byte, window, le16}
 use Rattle.layout.specs.Head.{contents, node-body, sized, edition-one, contiguous, counted, name-body, string-body}
-use Rattle.layout.specs.Kinds.{kind-of, between}
+use Rattle.nodes.specs.Kinds.{kind-of, between}
 use Rattle.layout.specs.Items.{names, strings, split, text}
 use Rattle.layout.specs.Texts.{identifier, keyword, all, string-byte, size-of, misfit, bad-name, bad-name-length, bad-string, among}
-use Rattle.layout.specs.Nodes.{count, shown, node-at, node-record}
-use Rattle.layout.specs.Fields.{bad-fields}
+use Rattle.nodes.specs.Nodes.{count, shown, node-at, node-record}
+use Rattle.nodes.specs.Fields.{bad-fields}
 use Rattle.layout.specs.Faults.{end-of, kind-byte, children-fit, bad-children, first-among, head-causes, text-causes, node-causes}
-use Rattle.layout.specs.Tree.{bad-size, too-deep}
-use Rattle.layout.specs.declared.node.Node.{Node}
+use Rattle.nodes.specs.Tree.{bad-size, too-deep}
+use Rattle.nodes.specs.declared.node.Node.{Node}
 use Rattle.tree.specs.Spans.{Spanned}
 use Rattle.tree.proofs.Nesting.{spanned, shallow}
 use Rattle.tree.proofs.Families.{family}

@@ -8,16 +8,16 @@ use mathlib.Core.List.{List, [], _∷_, _++_, map}
 use lib.Dec.{eqb, ltb}
 use lib.ListN.{length, getD, take}
 use Rattle.std.specs.declared.option.Option.the-variants.{Some}
-use Rattle.layout.specs.Kinds.{number, between}
+use Rattle.nodes.specs.Kinds.{number, between}
 use Rattle.layout.specs.Head.{node-body, name-body, string-body}
 use Rattle.layout.specs.Items.{names, strings, text}
 use Rattle.layout.specs.Texts.{identifier, keyword, all, string-byte, size-of}
-use Rattle.layout.specs.Nodes.{count, node-at}
-use Rattle.layout.specs.Fields.{fields, value-fits}
-use Rattle.layout.specs.Tree.{children}
-use Rattle.layout.specs.Shapes.{shape, fill}
+use Rattle.nodes.specs.Nodes.{count, node-at}
+use Rattle.nodes.specs.Fields.{fields, value-fits}
+use Rattle.nodes.specs.Tree.{children}
+use Rattle.nodes.specs.Shapes.{shape, fill}
 use Rattle.layout.specs.Faults.{end-of, kind-byte}
-use Rattle.layout.specs.declared.node.Node.{Node}
+use Rattle.nodes.specs.declared.node.Node.{Node}
 use Rattle.tree.specs.Spans.{Spanned, Shallow, Family}
 
 -- Where node i ends, and how many nodes there are.

@@ -8,7 +8,7 @@ ghost use Rattle.layout.specs.Head.{sized, edition-one, contiguous, counted};
 ghost use Rattle.layout.specs.Readers.{file-of};
 ghost use Rattle.layout.specs.declared.fault.FileFault.the-variants.{FileSize, Edition, BodyOrder, NodeCount};
 use finding::Finding;
-use layout::bytes::byte;
+use nodes::bytes::byte;
 use layout::fault::FileFault;
 use layout::reader::Contents;
 use layout::reader::Reader;

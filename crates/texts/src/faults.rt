@@ -14,7 +14,7 @@ use crate::spelling::is_keyword;
 use crate::spelling::is_string_text;
 use crate::spelling::same;
 use finding::Finding;
-use layout::bytes::byte;
+use nodes::bytes::byte;
 use layout::fault::FileFault;
 use layout::items::Items;
 use layout::items::text_of;

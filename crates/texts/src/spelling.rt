@@ -6,7 +6,7 @@ ghost use Prim.Native.Nat.{ℕ};
 ghost use lib.ListN.{getD};
 ghost use Rattle.std.specs.shelf.Text.{sameBytes};
 ghost use Rattle.layout.specs.Texts.{letter, letter-or-digit, identifier, keyword, keywords, string-byte, all};
-use layout::bytes::byte;
+use nodes::bytes::byte;
 
 // A test of one byte.
 trait ByteTest {

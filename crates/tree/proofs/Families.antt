@@ -8,7 +8,7 @@ use mathlib.Core.Logic.{_⊎_, inl, inr}
 use lib.Dec.{eqb, ltb}
 use borrow.Author.Tests.{lt-ltb, le-ltb, eqb-true, eq-eqb, ne-eqb}
 use Rattle.std.proofs.shelf.Tests.{cases-lt}
-use Rattle.layout.specs.Tree.{parent, children, children-from}
+use Rattle.nodes.specs.Tree.{parent, children, children-from}
 use Rattle.tree.specs.Spans.{Spanned, Family, Chain, elem}
 use Rattle.tree.proofs.Nesting.{Holds, parent-at, parent-holds}
 

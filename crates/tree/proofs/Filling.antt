@@ -10,12 +10,12 @@ use borrow.Author.Tests.{lt-ltb, le-ltb}
 use Rattle.std.proofs.shelf.Lists.{at-drop-more, at-drop-all}
 use Rattle.std.specs.declared.option.Option.{Option}
 use Rattle.std.specs.declared.option.Option.the-variants.{Some, None}
-use Rattle.layout.specs.Kinds.{kind-of}
+use Rattle.nodes.specs.Kinds.{kind-of}
 use Rattle.layout.specs.Faults.{end-of, kind-byte, children-fit}
-use Rattle.layout.specs.Tree.{children, children-from}
-use Rattle.layout.specs.declared.kind.Kind.{Kind}
-use Rattle.layout.specs.Shapes.{shape, of-class, again, asks, filled, content, fill}
-use Rattle.layout.specs.declared.shape.Slot.{Slot}
+use Rattle.nodes.specs.Tree.{children, children-from}
+use Rattle.nodes.specs.declared.kind.Kind.{Kind}
+use Rattle.nodes.specs.Shapes.{shape, of-class, again, asks, filled, content, fill}
+use Rattle.nodes.specs.declared.shape.Slot.{Slot}
 
 pub filled-none : (xs : List Slot) (k : ℕ) → length xs ≡ 0 → filled xs k ≡ None
 filled-none [] k h = refl

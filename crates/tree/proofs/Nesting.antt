@@ -13,7 +13,7 @@ use borrow.Author.Tests.{ltb-true, ltb-false, leb-false, eqb-true, eqb-false, lt
 use Rattle.std.proofs.shelf.Tests.{cases-lt}
 use Rattle.std.specs.declared.option.Option.{Option}
 use Rattle.std.specs.declared.option.Option.the-variants.{Some, None}
-use Rattle.layout.specs.Tree.{holder, parent, around, ancestors, depth, bad-size, too-deep}
+use Rattle.nodes.specs.Tree.{holder, parent, around, ancestors, depth, bad-size, too-deep}
 use Rattle.finding.specs.Search.{lowest}
 use Rattle.finding.proofs.Lowest.{none-lowest}
 use Rattle.tree.specs.Spans.{Spanned, Shallow}

@@ -4,7 +4,7 @@ use mathlib.Core.Path.{_≡_}
 use mathlib.Core.Bool.{Bool, true, false, _||_}
 use mathlib.Core.List.{List, [], _∷_}
 use lib.Dec.{eqb}
-use Rattle.layout.specs.Tree.{parent, ancestors, depth, children}
+use Rattle.nodes.specs.Tree.{parent, ancestors, depth, children}
 
 -- `e i` is the end of node i, and there are n nodes.
 pub record Spanned (e : ℕ → ℕ) (n : ℕ) : Type 0 where

@@ -4,7 +4,7 @@ use mathlib.Core.Path.{_≡_}
 use mathlib.Core.Bool.{false}
 use mathlib.Core.List.{List, [], _∷_}
 use lib.ListN.{getD}
-use Rattle.layout.specs.Tree.{ancestors, bad-size}
+use Rattle.nodes.specs.Tree.{ancestors, bad-size}
 
 -- what a stack holds below a place, the last pushed first
 abbrev pub held : List ℕ → ℕ → List ℕ

@@ -4,12 +4,12 @@ ghost use Prim.Native.Nat.{_<_};
 ghost use denote.Ref.{now};
 ghost use Rattle.std.specs.Options.{mapped};
 ghost use Rattle.layout.specs.Faults.{children-fit, bad-children};
-ghost use Rattle.layout.specs.Shapes.{asks, again, filled, content};
+ghost use Rattle.nodes.specs.Shapes.{asks, again, filled, content};
 use crate::sizes::end;
-use layout::bytes::byte;
-use layout::kind::Kind;
-use layout::shape::Slot;
-use layout::shape::Times;
+use nodes::bytes::byte;
+use nodes::kind::Kind;
+use nodes::shape::Slot;
+use nodes::shape::Times;
 
 // Whether a slot asks for a child.
 fn is_asking(times: Times) -> bool

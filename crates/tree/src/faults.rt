@@ -5,12 +5,12 @@ ghost use Prim.Native.Nat.{ℕ, _*_, _<_, _≤_};
 ghost use denote.Ref.{now};
 ghost use Rattle.std.specs.declared.option.Option.the-variants.{None};
 ghost use Rattle.finding.specs.Search.{lowest};
-ghost use Rattle.layout.specs.Bytes.{window};
+ghost use Rattle.nodes.specs.Bytes.{window};
 ghost use Rattle.layout.specs.Faults.{bad-children, place-of, first-among, node-causes};
-ghost use Rattle.layout.specs.Fields.{bad-fields};
+ghost use Rattle.nodes.specs.Fields.{bad-fields};
 ghost use Rattle.layout.specs.Head.{node-body};
-ghost use Rattle.layout.specs.Kinds.{between};
-ghost use Rattle.layout.specs.Nodes.{count};
+ghost use Rattle.nodes.specs.Kinds.{between};
+ghost use Rattle.nodes.specs.Nodes.{count};
 ghost use Rattle.layout.specs.Readers.{file-of};
 ghost use Rattle.layout.specs.declared.fault.FileFault.the-variants.{NodeFields, NodeSize, NodeChildren, NodeDepth};
 use crate::children::has_bad_children;
@@ -18,9 +18,9 @@ use crate::sizes::MOST_NODES;
 use crate::sizes::depth_fault;
 use crate::sizes::size_fault;
 use finding::Finding;
-use layout::bytes::cut;
+use nodes::bytes::cut;
 use layout::fault::FileFault;
-use layout::fields::bad_fields;
+use nodes::fields::bad_fields;
 use layout::reader::Reader;
 
 // A test of node i.

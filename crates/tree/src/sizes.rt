@@ -7,9 +7,9 @@ ghost use lib.ListN.{length, getD};
 ghost use Rattle.std.specs.declared.option.Option.the-variants.{None};
 ghost use Rattle.finding.specs.Search.{lowest};
 ghost use Rattle.layout.specs.Faults.{end-of};
-ghost use Rattle.layout.specs.Tree.{parent, ancestors, bad-size, too-deep};
+ghost use Rattle.nodes.specs.Tree.{parent, ancestors, bad-size, too-deep};
 ghost use Rattle.tree.specs.Stack.{held, Sound, Stacked};
-use layout::bytes::u16_at;
+use nodes::bytes::u16_at;
 
 /// The most nodes that a file has.
 pub(crate) const MOST_NODES: usize = 1024;

@@ -1,6 +1,6 @@
 use mathlib.Core.Path.{_≡_, _∙_, ap}
 use Rattle.std.proofs.shelf.Lists.{take-rest}
-use Rattle.layout.proofs.Windows.{drop-min}
+use Rattle.nodes.proofs.Windows.{drop-min}
 use Rattle.layout.proofs.items.text_of.Needs as need
 
 pub returns : need.returns

@@ -1,8 +1,8 @@
 use native.Mathlib.Omega.{arith}
 use mathlib.Core.Path.{_≡_, refl, sym, _∙_, ap}
-use Rattle.layout.specs.Kinds.{kind-of}
+use Rattle.nodes.specs.Kinds.{kind-of}
 use Rattle.layout.specs.Faults.{end-of, kind-byte}
-use Rattle.layout.specs.Shapes.{filled}
+use Rattle.nodes.specs.Shapes.{filled}
 use Rattle.tree.proofs.Filling.{fill-more, fill-stuck, fill-end, fill-all, fit-start, fit-unknown}
 use Rattle.tree.proofs.children.do_children_fit.Needs as need
 

@@ -3,8 +3,8 @@ use mathlib.Core.Path.{_≡_}
 use mathlib.Core.List.{map}
 use Rattle.std.specs.declared.option.Option.the-variants.{Some}
 use Rattle.layout.specs.Faults.{end-of, kind-byte, children-fit}
-use Rattle.layout.specs.Shapes.{fill}
-use Rattle.layout.specs.Tree.{children-from}
+use Rattle.nodes.specs.Shapes.{fill}
+use Rattle.nodes.specs.Tree.{children-from}
 use Rattle.tree.proofs.children.do_children_fit.Given as given
 
 abbrev pub Inv-loop : given.InvT-loop

@@ -1,6 +1,6 @@
 use mathlib.Core.Path.{_≡_}
 use lib.ListN.{drop}
-use Rattle.layout.specs.Shapes.{content}
+use Rattle.nodes.specs.Shapes.{content}
 use Rattle.tree.proofs.children.is_content.Given as given
 
 abbrev pub Inv-loop-slot : given.InvT-loop-slot

@@ -7,7 +7,7 @@ use Rattle.std.specs.declared.option.Option.the-variants.{None}
 use Rattle.finding.specs.Search.{lowest}
 use Rattle.finding.proofs.Lowest.{lowest-at, lowest-none}
 use Rattle.layout.specs.Faults.{end-of}
-use Rattle.layout.specs.Tree.{depth, bad-size, too-deep}
+use Rattle.nodes.specs.Tree.{depth, bad-size, too-deep}
 use Rattle.tree.specs.Spans.{Spanned}
 use Rattle.tree.proofs.Nesting.{no-fault, spanned, stacked-first, pushed, depth-held, depth-root, deep, not-deep}
 use Rattle.tree.proofs.sizes.depth_fault.Needs as need

@@ -3,7 +3,7 @@ use mathlib.Core.Path.{_≡_}
 use mathlib.Core.Bool.{false}
 use lib.ListN.{length}
 use Rattle.layout.specs.Faults.{end-of}
-use Rattle.layout.specs.Tree.{too-deep}
+use Rattle.nodes.specs.Tree.{too-deep}
 use Rattle.tree.specs.Stack.{Stacked}
 use Rattle.tree.proofs.sizes.depth_fault.Given as given
 

@@ -4,7 +4,7 @@ use mathlib.Core.Bool.{Bool, true, false}
 use lib.ListN.{length-set}
 use Rattle.finding.proofs.Lowest.{lowest-at, lowest-none}
 use Rattle.layout.specs.Faults.{end-of}
-use Rattle.layout.specs.Tree.{bad-size}
+use Rattle.nodes.specs.Tree.{bad-size}
 use Rattle.tree.proofs.Nesting.{fault-root, fine-root, fault-later, sound-more, stacked-first, pushed}
 use Rattle.tree.proofs.sizes.size_fault.Needs as need
 use Rattle.tree.proofs.sizes.size_fault.Needs.{After-is-out}

@@ -10,13 +10,13 @@ use lib.IntN.{ℤ, pos}
 use lib.Signed.{leZ, ltZ}
 use Rattle.std.specs.declared.option.Option.{Option}
 use Rattle.std.specs.declared.option.Option.the-variants.{Some, None}
-use Rattle.layout.specs.Bytes.{byte, le64}
-use Rattle.layout.specs.Kinds.{kind-of, between}
-use Rattle.layout.specs.declared.kind.Kind.{Kind}
-use Rattle.layout.specs.declared.kind.Kind.the-variants.{Program, Import, ScalarDeclaration, ArrayDeclaration, Method, Parameter, Block, Assignment, Step, CallStatement, If, For, While, Return, Break, Continue, ScalarLocation, ArrayLocation, Literal, Unary, Cast, Call, Len, Binary, Text}
-use Rattle.layout.specs.declared.fields.Value.{Value}
-use Rattle.layout.specs.declared.fields.Value.the-variants as value
-use Rattle.layout.specs.declared.fields.Fields.{Fields}
+use Rattle.nodes.specs.Bytes.{byte, le64}
+use Rattle.nodes.specs.Kinds.{kind-of, between}
+use Rattle.nodes.specs.declared.kind.Kind.{Kind}
+use Rattle.nodes.specs.declared.kind.Kind.the-variants.{Program, Import, ScalarDeclaration, ArrayDeclaration, Method, Parameter, Block, Assignment, Step, CallStatement, If, For, While, Return, Break, Continue, ScalarLocation, ArrayLocation, Literal, Unary, Cast, Call, Len, Binary, Text}
+use Rattle.nodes.specs.declared.fields.Value.{Value}
+use Rattle.nodes.specs.declared.fields.Value.the-variants as value
+use Rattle.nodes.specs.declared.fields.Fields.{Fields}
 
 abbrev pub row : ℕ → ℕ → Bool → Value → Fields
 row first last named v = record { first = first; last = last; named = named; value = v }

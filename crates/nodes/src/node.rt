@@ -1,6 +1,6 @@
 // A node as its record of 16 bytes shows it.
 ghost use mathlib.Core.Path.{_≡_};
-ghost use Rattle.layout.specs.Nodes.{decoded};
+ghost use Rattle.nodes.specs.Nodes.{decoded};
 use crate::bytes::byte;
 use crate::bytes::i64_at;
 use crate::bytes::u16_at;

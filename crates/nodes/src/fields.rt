@@ -1,6 +1,6 @@
 // The fields of a node, by its kind.
 ghost use mathlib.Core.Path.{_≡_};
-ghost use Rattle.layout.specs.Fields.{fields, value-fits, fits, under, bad-fields};
+ghost use Rattle.nodes.specs.Fields.{fields, value-fits, fits, under, bad-fields};
 ghost use Prim.Native.Nat.{ℕ};
 ghost use mathlib.Core.Bool.{cond};
 ghost use lib.Dec.{eqb, ltb};

@@ -8,14 +8,14 @@ use mathlib.Core.List.{List, [], _∷_}
 use lib.Dec.{eqb}
 use Rattle.std.specs.declared.option.Option.{Option}
 use Rattle.std.specs.declared.option.Option.the-variants.{Some, None}
-use Rattle.layout.specs.Kinds.{number, is, between}
-use Rattle.layout.specs.declared.kind.Kind.{Kind}
-use Rattle.layout.specs.declared.kind.Kind.the-variants.{Program, Import, ScalarDeclaration, ArrayDeclaration, Method, Parameter, Block, Assignment, Step, CallStatement, If, For, While, Return, Break, Continue, ScalarLocation, ArrayLocation, Literal, Unary, Cast, Call, Len, Binary, Text}
-use Rattle.layout.specs.declared.shape.Class.{Class}
-use Rattle.layout.specs.declared.shape.Class.the-variants as class
-use Rattle.layout.specs.declared.shape.Times.{Times}
-use Rattle.layout.specs.declared.shape.Times.the-variants as times
-use Rattle.layout.specs.declared.shape.Slot.{Slot}
+use Rattle.nodes.specs.Kinds.{number, is, between}
+use Rattle.nodes.specs.declared.kind.Kind.{Kind}
+use Rattle.nodes.specs.declared.kind.Kind.the-variants.{Program, Import, ScalarDeclaration, ArrayDeclaration, Method, Parameter, Block, Assignment, Step, CallStatement, If, For, While, Return, Break, Continue, ScalarLocation, ArrayLocation, Literal, Unary, Cast, Call, Len, Binary, Text}
+use Rattle.nodes.specs.declared.shape.Class.{Class}
+use Rattle.nodes.specs.declared.shape.Class.the-variants as class
+use Rattle.nodes.specs.declared.shape.Times.{Times}
+use Rattle.nodes.specs.declared.shape.Times.the-variants as times
+use Rattle.nodes.specs.declared.shape.Slot.{Slot}
 
 -- Whether a kind, by its number, is of the class.
 abbrev pub of-class : Class → ℕ → Bool

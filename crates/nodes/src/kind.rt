@@ -1,5 +1,5 @@
 ghost use mathlib.Core.Path.{_≡_};
-ghost use Rattle.layout.specs.Kinds.{number, kind-of};
+ghost use Rattle.nodes.specs.Kinds.{number, kind-of};
 
 /// The 25 kinds of nodes, in the order of their numbers from 1.
 #[derive(Clone, Copy, PartialEq, Eq, Debug)]

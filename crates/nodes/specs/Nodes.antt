@@ -6,10 +6,10 @@ use lib.Dec.{ltb}
 use lib.ListN.{length}
 use Rattle.std.specs.declared.option.Option.{Option}
 use Rattle.std.specs.declared.option.Option.the-variants.{Some, None}
-use Rattle.layout.specs.Bytes.{byte, window, le16, le64}
-use Rattle.layout.specs.Kinds.{kind-of}
-use Rattle.layout.specs.declared.kind.Kind.{Kind}
-use Rattle.layout.specs.declared.node.Node.{Node}
+use Rattle.nodes.specs.Bytes.{byte, window, le16, le64}
+use Rattle.nodes.specs.Kinds.{kind-of}
+use Rattle.nodes.specs.declared.kind.Kind.{Kind}
+use Rattle.nodes.specs.declared.node.Node.{Node}
 
 -- How many whole records a body has.
 abbrev pub count : List ℕ → ℕ

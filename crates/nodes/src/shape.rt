@@ -1,6 +1,6 @@
 // The children of a node, by its kind.
 ghost use mathlib.Core.Path.{_≡_};
-ghost use Rattle.layout.specs.Shapes.{shape, of-class};
+ghost use Rattle.nodes.specs.Shapes.{shape, of-class};
 use crate::kind::Kind;
 
 /// A class of kinds that may stand at the same place.

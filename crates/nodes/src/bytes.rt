@@ -1,7 +1,7 @@
 // Windows and fields of a row of bytes. Past the end a byte reads as 0, and a window is cut at the end.
 ghost use mathlib.Core.Path.{_≡_};
 ghost use Prim.Native.Nat.{_+_, _<_};
-ghost use Rattle.layout.specs.Bytes.{byte, window, le16, le32, le64};
+ghost use Rattle.nodes.specs.Bytes.{byte, window, le16, le32, le64};
 ghost use lib.ListN.{length};
 
 /// The byte at a place.
@@ -20,7 +20,7 @@ pub fn u16_at(bytes: &[u8], at: u32) -> u16
 }
 
 /// The number of four bytes.
-pub(crate) fn u32_at(bytes: &[u8], at: u32) -> u32
+pub fn u32_at(bytes: &[u8], at: u32) -> u32
     ensures { λ r. ⌜ r ≡ le32 (now (bytes .entry)) at ⌝ }
 {
     let at = at as usize;

@@ -7,7 +7,7 @@ use mathlib.Core.Logic.{inl, inr}
 use lib.ListN.{length, take, drop, length-drop}
 use Rattle.std.proofs.shelf.Lists.{take-all, drop-all}
 use Rattle.std.proofs.shelf.Tests.{cases-lt}
-use Rattle.layout.specs.Bytes.{window}
+use Rattle.nodes.specs.Bytes.{window}
 
 pub window-cut : (bs : List ℕ) (at size from to : ℕ) → from ≡ min (length bs) at → to ≡ min (length bs) (from + size) → take (to - from) (drop from bs) ≡ window bs at size
 window-cut bs at size from to p q =
