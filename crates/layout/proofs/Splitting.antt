@@ -7,8 +7,11 @@ use mathlib.Core.Logic.{inl, inr}
 use lib.ListN.{length, take, drop, getD}
 use Rattle.std.proofs.shelf.Lists.{take-all, drop-all}
 use Rattle.std.proofs.shelf.Tests.{cases-lt}
+use denote.Ref.{RefT}
+use Rattle.std.specs.declared.option.Option.{Option}
 use Rattle.std.specs.declared.option.Option.the-variants.{Some, None}
 use Rattle.layout.specs.Items.{items, nth}
+use Rattle.layout.specs.Readers.{Stepped, Shows}
 
 pub items-none : (n : ℕ) → items n [] ≡ []
 items-none zero = refl
@@ -45,5 +48,7 @@ nth-next all later x k i l h =
 pub nth-none : {X : Type 0} (all : List X) (k : ℕ) → all ≡ [] → nth all k ≡ None
 nth-none all k h = rw h refl
 
-pub nth-here : {X : Type 0} (all later : List X) (x : X) (k : ℕ) → k ≡ 0 → all ≡ x ∷ later → nth all k ≡ Some x
-nth-here all later x k z h = rw (h, z) refl
+-- the item that comes next
+pub nth-first : (r : Option (RefT (List ℕ))) (whole : Option (List ℕ)) (before after : List (List ℕ)) (k : ℕ) → k ≡ 0 → whole ≡ nth before k → Stepped r before after → Shows r whole
+nth-first None whole before after k z w h = w ∙ nth-none before k (h .0)
+nth-first (Some item) whole before after k z w h = w ∙ rw (h .0, z) refl

@@ -1,9 +1,11 @@
 // The items of a body of names or of strings, one after another.
 ghost use mathlib.Core.Path.{_≡_};
-ghost use lib.ListN.{length};
+ghost use Prim.Native.Nat.{_+_, _<_, min};
+ghost use lib.ListN.{length, getD};
 ghost use Rattle.layout.specs.Head.{name-body};
-ghost use Rattle.layout.specs.Items.{split, text, text-at};
+ghost use Rattle.layout.specs.Items.{split, nth, text-at};
 ghost use Rattle.layout.specs.Readers.{Stepped, Shows, pending};
+use nodes::bytes::tail;
 
 /// How many items of a body are looked at: one more than there may be.
 const MOST: u16 = 256;
@@ -17,7 +19,7 @@ pub struct Items<'a> {
 
 impl<'a> Items<'a> {
     /// The items of a body, from the first on.
-    pub fn of(body: &'a [u8]) -> Items<'a>
+    pub(crate) fn of(body: &'a [u8]) -> Items<'a>
         ensures { λ r. ⌜ pending r ≡ split (now (body .entry)) ⌝ }
     {
         Items {
@@ -33,8 +35,7 @@ impl<'a> Items<'a> {
         if self.left == 0 || self.rest.is_empty() {
             return None;
         }
-        let size = self.rest[0] as usize + 1;
-        let end = self.rest.len().min(size);
+        let end = item_end(self.rest);
         let item = &self.rest[0..end];
         self.rest = &self.rest[end..];
         self.left -= 1;
@@ -52,22 +53,28 @@ impl<'a> Items<'a> {
         n
     }
 
-    /// The text of the item that comes after `k` others: its bytes without the length byte.
-    pub fn text(mut self, k: u32) -> Option<&'a [u8]>
-        ensures { λ r. ⌜ Shows r (text-at (pending (self .entry)) k) ⌝ }
+    // The item that comes after `k` others.
+    fn item(mut self, k: u32) -> Option<&'a [u8]>
+        ensures { λ r. ⌜ Shows r (nth (pending (self .entry)) k) ⌝ }
     {
         for _ in 0..k {
             self.next_item()?;
         }
-        let item = self.next_item()?;
-        Some(text_of(item))
+        self.next_item()
+    }
+
+    /// The text of the item that comes after `k` others: its bytes without the length byte.
+    pub fn text(self, k: u32) -> Option<&'a [u8]>
+        ensures { λ r. ⌜ Shows r (text-at (pending (self .entry)) k) ⌝ }
+    {
+        Some(tail(self.item(k)?))
     }
 }
 
-/// What an item says: its bytes after the length byte.
-pub fn text_of(item: &[u8]) -> &[u8]
-    ensures { λ r. ⌜ now r ≡ text (now (item .entry)) ⌝ }
+// Where the first item of a row ends: after as many bytes as its length byte says, or with the row.
+fn item_end(rest: &[u8]) -> usize
+    requires { ⌜ 0 < length (now rest) ⌝ }
+    ensures { λ r. ⌜ r ≡ min (length (now (rest .entry))) (getD (now (rest .entry)) 0 0 + 1) ⌝ }
 {
-    let from = item.len().min(1);
-    &item[from..]
+    rest.len().min(rest[0] as usize + 1)
 }

@@ -9,20 +9,20 @@ ghost use Rattle.layout.specs.Head.{contents, part, body-at, node-body, name-b
 ghost use Rattle.layout.specs.Items.{names, strings, text-at};
 ghost use Rattle.nodes.specs.Nodes.{count, node-record, node-at};
 ghost use Rattle.layout.specs.Readers.{file-of, pending, Shows};
+use crate::items::Items;
 use nodes::bytes::cut;
 use nodes::bytes::u32_at;
-use crate::items::Items;
 use nodes::node::Node;
 
 /// Where a body lies in the file, as the contents tell it.
-#[derive(Clone, Copy, PartialEq, Eq, Debug)]
+#[derive(Clone, Copy)]
 pub struct Part {
     pub offset: u32,
     pub length: u32,
 }
 
 /// The contents of a file: where its three bodies lie.
-#[derive(Clone, Copy, PartialEq, Eq, Debug)]
+#[derive(Clone, Copy)]
 pub struct Contents {
     pub nodes: Part,
     pub names: Part,
@@ -47,7 +47,8 @@ impl<'a> Reader<'a> {
     pub fn file(&self) -> &'a [u8]
         ensures { λ r. ⌜ now r ≡ file-of (now (self .entry)) ⌝ }
     {
-        self.file
+        let Reader { file } = *self;
+        file
     }
 
     /// The contents as the head tells them, true or not.
@@ -68,15 +69,15 @@ impl<'a> Reader<'a> {
         body_at(self.file, 4)
     }
 
-    /// The names with their length bytes, as one window.
-    pub fn name_body(&self) -> &'a [u8]
+    // The names with their length bytes, as one window.
+    fn name_body(&self) -> &'a [u8]
         ensures { λ r. ⌜ now r ≡ name-body (file-of (now (self .entry))) ⌝ }
     {
         body_at(self.file, 12)
     }
 
-    /// The strings with their length bytes, as one window.
-    pub fn string_body(&self) -> &'a [u8]
+    // The strings with their length bytes, as one window.
+    fn string_body(&self) -> &'a [u8]
         ensures { λ r. ⌜ now r ≡ string-body (file-of (now (self .entry))) ⌝ }
     {
         body_at(self.file, 20)

@@ -1,8 +1,8 @@
 // Windows and fields of a row of bytes. Past the end a byte reads as 0, and a window is cut at the end.
 ghost use mathlib.Core.Path.{_≡_};
-ghost use Prim.Native.Nat.{_+_, _<_};
+ghost use Prim.Native.Nat.{_+_, _^_, _<_};
 ghost use Rattle.nodes.specs.Bytes.{byte, window, le16, le32, le64};
-ghost use lib.ListN.{length};
+ghost use lib.ListN.{length, drop};
 
 /// The byte at a place.
 pub fn byte(bytes: &[u8], at: usize) -> u8
@@ -49,11 +49,34 @@ pub(crate) fn i64_at(bytes: &[u8], at: u32) -> i64
     ])
 }
 
+// The window of `size` bytes from `at` on, cut at the end.
+fn clip(bytes: &[u8], at: usize, size: usize) -> &[u8]
+    requires { ⌜ at + size < 2 ^ 64 ⌝ }
+    ensures { λ r. ⌜ now r ≡ window (now (bytes .entry)) at size ⌝ }
+{
+    let from = bytes.len().min(at);
+    let to = bytes.len().min(from + size);
+    &bytes[from..to]
+}
+
 /// The window of `size` bytes from `at` on, cut at the end.
 pub fn cut(bytes: &[u8], at: u32, size: u32) -> &[u8]
     ensures { λ r. ⌜ now r ≡ window (now (bytes .entry)) at size ⌝ }
 {
-    let from = bytes.len().min(at as usize);
-    let to = bytes.len().min(from + size as usize);
-    &bytes[from..to]
+    clip(bytes, at as usize, size as usize)
+}
+
+// What follows the first `n` bytes.
+fn skip(bytes: &[u8], n: usize) -> &[u8]
+    ensures { λ r. ⌜ now r ≡ drop n (now (bytes .entry)) ⌝ }
+{
+    let from = bytes.len().min(n);
+    &bytes[from..]
+}
+
+/// What follows the first byte.
+pub fn tail(bytes: &[u8]) -> &[u8]
+    ensures { λ r. ⌜ now r ≡ drop 1 (now (bytes .entry)) ⌝ }
+{
+    skip(bytes, 1)
 }

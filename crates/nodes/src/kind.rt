@@ -2,7 +2,7 @@ ghost use mathlib.Core.Path.{_≡_};
 ghost use Rattle.nodes.specs.Kinds.{number, kind-of};
 
 /// The 25 kinds of nodes, in the order of their numbers from 1.
-#[derive(Clone, Copy, PartialEq, Eq, Debug)]
+#[derive(Clone, Copy)]
 pub enum Kind {
     Program = 1,
     Import,

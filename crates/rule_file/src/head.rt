@@ -8,10 +8,10 @@ ghost use Rattle.layout.specs.Head.{sized, edition-one, contiguous, counted};
 ghost use Rattle.layout.specs.Readers.{file-of};
 ghost use Rattle.layout.specs.declared.fault.FileFault.the-variants.{FileSize, Edition, BodyOrder, NodeCount};
 use finding::Finding;
-use nodes::bytes::byte;
 use layout::fault::FileFault;
 use layout::reader::Contents;
 use layout::reader::Reader;
+use nodes::bytes::byte;
 
 fn is_sized(file: &[u8]) -> bool
     ensures { λ r. ⌜ r ≡ sized (now (file .entry)) ⌝ }

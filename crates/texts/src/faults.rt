@@ -14,11 +14,11 @@ use crate::spelling::is_keyword;
 use crate::spelling::is_string_text;
 use crate::spelling::same;
 use finding::Finding;
-use nodes::bytes::byte;
 use layout::fault::FileFault;
 use layout::items::Items;
-use layout::items::text_of;
 use layout::reader::Reader;
+use nodes::bytes::byte;
+use nodes::bytes::tail;
 
 // A test of item k of a body.
 trait ItemTest {
@@ -66,7 +66,7 @@ impl ItemTest for TextTest as TextItemTest {
     ghost fails = { λ _ _. bad-name };
 
     fn fails_at(&self, _k: u32, item: &[u8]) -> bool {
-        let text = text_of(item);
+        let text = tail(item);
         !is_identifier(text) || is_keyword(text)
     }
 }
@@ -106,7 +106,7 @@ impl ItemTest for StringTest as StringItemTest {
     ghost fails = { λ _. bad-string };
 
     fn fails_at(&self, k: u32, item: &[u8]) -> bool {
-        is_misfit(0, 63, k, item) || !is_string_text(text_of(item))
+        is_misfit(0, 63, k, item) || !is_string_text(tail(item))
     }
 }
 

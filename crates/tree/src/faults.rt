@@ -18,10 +18,10 @@ use crate::sizes::MOST_NODES;
 use crate::sizes::depth_fault;
 use crate::sizes::size_fault;
 use finding::Finding;
-use nodes::bytes::cut;
 use layout::fault::FileFault;
-use nodes::fields::bad_fields;
 use layout::reader::Reader;
+use nodes::bytes::cut;
+use nodes::fields::bad_fields;
 
 // A test of node i.
 trait NodeTest {

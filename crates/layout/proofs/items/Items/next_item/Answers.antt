@@ -21,8 +21,8 @@ returns-then-self-eq0 c =
 pub returns : need.returns
 returns c =
     let rest = c .args .self .now .rest .now in
-    let e = c .min-end .result in
+    let e = c .item-end-end .result in
     let some = false-eqb (length rest) 0 (c .if-is-empty .ensures tt) in
-    let n = items-next (c .args .self .now .left) rest e (omega arith) (omega arith) (c .min-end .ensures) in
+    let n = items-next (c .args .self .now .left) rest e (omega arith) (omega arith) (c .item-end-end .ensures) in
     let z : e - 0 ≡ e = omega arith in
     (rw (z, take-rest rest e) n, rw z (simp length-take (omega arith)))

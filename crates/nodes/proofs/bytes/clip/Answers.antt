@@ -1,5 +1,5 @@
 use Rattle.nodes.proofs.Windows.{window-cut}
-use Rattle.nodes.proofs.bytes.cut.Needs as need
+use Rattle.nodes.proofs.bytes.clip.Needs as need
 
 pub returns : need.returns
 returns c =
