@@ -6,7 +6,7 @@ ghost use mathlib.Core.Path.{_≡_};
 ghost use Prim.Native.Nat.{ℕ};
 
 /// A cause with the place where it was found: a name's, a string's or a node's number, or 0 for the file as a whole.
-#[derive(Clone, Copy, PartialEq, Eq, Debug)]
+#[derive(Clone, Copy)]
 pub struct Finding<C> {
     pub place: u32,
     pub cause: C,

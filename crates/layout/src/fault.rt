@@ -3,7 +3,7 @@ ghost use Rattle.layout.specs.Faults.{number-of};
 use finding::Numbered;
 
 /// Why a file is refused before its rules are looked at, in the order in which the causes are tried.
-#[derive(Clone, Copy, PartialEq, Eq, Debug)]
+#[derive(Clone, Copy)]
 pub enum FileFault {
     /// fewer than 28 bytes or more than 24,576
     FileSize,
