@@ -368,7 +368,7 @@ fn children<'a>(reader: Reader<'a>, i: u32) -> Phrase<'a> {
         None => Kind::Program,
     };
     if i == 0 && kind.number() != 1 {
-        return Phrase::one(Piece::Words("the place of the program, which node 0 is"));
+        return Phrase::one(Piece::Words("the place of the program, and is none"));
     }
     let count = child_count(reader, i) as i64;
     Phrase::two(
