@@ -1,11 +1,11 @@
 // Words for what a rule file holds: kinds, tags, names and strings.
 use crate::text::Phrase;
 use crate::text::Piece;
+use layout::reader::Reader;
 use nodes::bytes::byte;
 use nodes::fields::Value;
 use nodes::kind::Kind;
 use nodes::node::Node;
-use layout::reader::Reader;
 
 // The word with which the listing begins a node of the kind.
 fn word(kind: Kind) -> &'static str {
