@@ -11,11 +11,14 @@ use layout::items::Items;
 use layout::reader::Part;
 use layout::reader::Reader;
 use nodes::bytes::byte;
+use nodes::bytes::tail;
 use nodes::fields::Value;
 use nodes::kind::Kind;
 use nodes::node::Node;
 use rule_file::examine;
 use std::fmt;
+use texts::spelling::is_identifier;
+use texts::spelling::is_string_text;
 
 /// The most bytes that a rule file has.
 pub const MOST_BYTES: usize = 24576;
@@ -220,18 +223,6 @@ fn name_length<'a>(item: &[u8]) -> Piece<'a> {
     Piece::Number("has ", length as i64, why)
 }
 
-// Whether the bytes are a letter and then letters and digits, where the underscore is a letter.
-fn is_identifier(text: &[u8]) -> bool {
-    for (i, b) in text.iter().enumerate() {
-        match *b {
-            b'A'..=b'Z' | b'a'..=b'z' | b'_' => {}
-            b'0'..=b'9' if i > 0 => {}
-            _ => return false,
-        }
-    }
-    !text.is_empty()
-}
-
 // A name is refused if it is no identifier or if it is a keyword.
 fn name_text<'a>(text: &'a [u8]) -> Piece<'a> {
     let why = if is_identifier(text) {
@@ -253,20 +244,10 @@ fn repeated<'a>(reader: Reader<'a>, k: u32) -> Phrase<'a> {
     Phrase::one(Piece::Bytes("is \"", text, "\", and so is a lower name"))
 }
 
-// Whether each byte is printable ASCII, a tab, a line feed, a form feed or a carriage return.
-fn is_string(text: &[u8]) -> bool {
-    for b in text {
-        if !matches!(*b, b' '..=b'~' | 9 | 10 | 12 | 13) {
-            return false;
-        }
-    }
-    true
-}
-
 fn string_text<'a>(item: &'a [u8]) -> Piece<'a> {
     let length = byte(item, 0);
-    let text = &item[item.len().min(1)..];
-    if length <= 63 && is_whole(item) && !is_string(text) {
+    let text = tail(item);
+    if length <= 63 && is_whole(item) && !is_string_text(text) {
         return Piece::Bytes(
             "is \"",
             text,

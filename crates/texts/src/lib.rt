@@ -1,3 +1,3 @@
 // Names and strings: of each cause of a fault the lowest place, and the first fault among them.
 pub mod faults;
-mod spelling;
+pub mod spelling;

@@ -55,14 +55,14 @@ fn is_letter(b: u8) -> bool
 }
 
 /// Whether the bytes are a letter and then letters and digits.
-pub(crate) fn is_identifier(text: &[u8]) -> bool
+pub fn is_identifier(text: &[u8]) -> bool
     ensures { λ r. ⌜ r ≡ identifier (now (text .entry)) ⌝ }
 {
     is_letter(byte(text, 0)) && all_pass(text, &LetterOrDigit)
 }
 
 /// Whether every byte may stand in a string.
-pub(crate) fn is_string_text(text: &[u8]) -> bool
+pub fn is_string_text(text: &[u8]) -> bool
     ensures { λ r. ⌜ r ≡ all string-byte (now (text .entry)) ⌝ }
 {
     all_pass(text, &StringByte)
@@ -100,7 +100,7 @@ fn keyword_at(k: u32) -> &'static [u8]
 }
 
 /// Whether the bytes are a keyword of the language.
-pub(crate) fn is_keyword(text: &[u8]) -> bool
+pub fn is_keyword(text: &[u8]) -> bool
     ensures { λ r. ⌜ r ≡ keyword (now (text .entry)) ⌝ }
 {
     for k in 0..15 {
