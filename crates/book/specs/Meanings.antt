@@ -1,6 +1,6 @@
 -- What a book means, what its calls answer, and what a put makes of the meaning.
 --
--- A meaning is all that calls show of a book, and books are compared by it alone. Column and lot are natural numbers here, and
+-- A meaning decides all that calls show of a book, and books are compared by it alone. Column and lot are natural numbers here, and
 -- the functions are total: what they give for a column over 7 or a lot outside is never asked for. A spot may have a place and
 -- no value. Nothing says that a spot with a value has a place, or that there are places at all: a book without any is a book.
 use Prim.Native.Nat.{ℕ, _-_}

@@ -27,7 +27,7 @@ pub const MOST_LOTS: u32 = 4096;
 ///
 /// A column over 7 is refused as `BookFault::Column`; then a lot outside the book, also one below 0, as `BookFault::Lot`.
 pub trait Book {
-    /// What the book means, which is all that its calls show of it.
+    /// What the book means, which decides all that its calls show of it.
     ghost meaning: { Self → Meaning };
 
     /// A book has at most 4,096 lots.

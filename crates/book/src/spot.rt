@@ -6,7 +6,7 @@ ghost use Rattle.book.specs.Spots.{spot-of};
 use crate::COLUMNS;
 use crate::fault::BookFault;
 
-/// One of the columns 0 to 7 and one of the lots of a book.
+/// A column and a lot. `find_spot` gives only those that a book has.
 #[derive(Clone, Copy)]
 pub struct Spot {
     pub column: u32,

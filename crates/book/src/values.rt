@@ -18,7 +18,7 @@ pub struct Entry {
     pub value: i32,
 }
 
-/// All values of a book, by lot and then by column. It fails for want of memory alone.
+/// All values of a book, by lot and then by column. `Err` says that memory is wanting.
 pub fn values<B: Book>(heap: Global, book: &B) -> Result<Vec<Entry>, AllocError>
     ensures { λ r. ⌜ made r (λ found. vec-items found ≡ all-values (B·Book .meaning (now (book .entry)))) ⌝ }
 {

@@ -2,7 +2,6 @@
 ghost use mathlib.Core.Path.{_≡_};
 ghost use Prim.Native.Nat.{_+_, _<_, min};
 ghost use lib.ListN.{length, getD};
-ghost use Rattle.layout.specs.Head.{name-body};
 ghost use Rattle.layout.specs.Items.{split, nth, text-at};
 ghost use Rattle.layout.specs.Readers.{Stepped, Shows, pending};
 use nodes::bytes::tail;

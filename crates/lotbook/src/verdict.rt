@@ -160,6 +160,8 @@ fn end(part: Part) -> i64 {
     part.offset as i64 + part.length as i64
 }
 
+const BEGIN: &str = ", but should begin at byte ";
+
 // The first body that does not begin where the one before it ends, or else the file's end.
 fn misplaced<'a>(reader: Reader<'a>) -> Phrase<'a> {
     let contents = reader.contents();
@@ -167,29 +169,33 @@ fn misplaced<'a>(reader: Reader<'a>) -> Phrase<'a> {
     let names = contents.names.offset as i64;
     let strings = contents.strings.offset as i64;
     let (at, wanted) = if nodes != 28 {
-        (Piece::Number("nodes begin at byte ", nodes, ""), 28)
+        (Piece::Number("nodes begin at byte ", nodes, BEGIN), 28)
     } else if names != end(contents.nodes) {
         (
-            Piece::Number("names begin at byte ", names, ""),
+            Piece::Number("names begin at byte ", names, BEGIN),
             end(contents.nodes),
         )
     } else if strings != end(contents.names) {
         (
-            Piece::Number("strings begin at byte ", strings, ""),
+            Piece::Number("strings begin at byte ", strings, BEGIN),
             end(contents.names),
         )
     } else {
         (
-            Piece::count("file ends at byte ", reader.file().len(), ""),
+            Piece::count(
+                "file ends at byte ",
+                reader.file().len(),
+                ", but should end at byte ",
+            ),
             end(contents.strings),
         )
     };
-    Phrase::two(at, Piece::Number(", and should at byte ", wanted, ""))
+    Phrase::two(at, Piece::Number("", wanted, ""))
 }
 
 fn miscounted<'a>(length: u32) -> Piece<'a> {
     let why = match length {
-        0 => " bytes, and a rule has a node at least",
+        0 => " bytes, and a rule has at least one node",
         1..=16384 => " bytes, which is no whole number of nodes of 16 bytes",
         _ => " bytes, which is more than 1024 nodes of 16 bytes",
     };

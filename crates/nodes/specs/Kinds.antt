@@ -47,8 +47,5 @@ numbered (k ∷ ks) n = cond (eqb n (number k)) (Some k) (numbered ks n)
 abbrev pub kind-of : ℕ → Option Kind
 kind-of n = numbered kinds n
 
-abbrev pub is : Kind → Kind → Bool
-is a b = eqb (number a) (number b)
-
 abbrev pub between : ℕ → ℕ → ℕ → Bool
 between low high n = leb low n && leb n high

@@ -2,13 +2,15 @@
 --
 -- A slot takes one child, or one at most, or any number. Children fill the slots in order: a child goes into the first
 -- open slot of its class, and the slots that it passes over must not ask for one.
-use Prim.Native.Nat.{ℕ}
+use Prim.Native.Nat.{ℕ, _≤_}
+use mathlib.Core.Path.{_≡_}
 use mathlib.Core.Bool.{Bool, true, false, cond, _&&_, _||_, not}
-use mathlib.Core.List.{List, [], _∷_}
+use mathlib.Core.List.{List, [], _∷_, _++_}
 use lib.Dec.{eqb}
+use lib.ListN.{length}
 use Rattle.std.specs.declared.option.Option.{Option}
 use Rattle.std.specs.declared.option.Option.the-variants.{Some, None}
-use Rattle.nodes.specs.Kinds.{number, is, between}
+use Rattle.nodes.specs.Kinds.{between}
 use Rattle.nodes.specs.declared.kind.Kind.{Kind}
 use Rattle.nodes.specs.declared.kind.Kind.the-variants.{Program, Import, ScalarDeclaration, ArrayDeclaration, Method, Parameter, Block, Assignment, Step, CallStatement, If, For, While, Return, Break, Continue, ScalarLocation, ArrayLocation, Literal, Unary, Cast, Call, Len, Binary, Text}
 use Rattle.nodes.specs.declared.shape.Class.{Class}
@@ -102,3 +104,23 @@ abbrev pub fill : Option (List Slot) → List ℕ → Bool
 fill None ks = false
 fill (Some slots) [] = content slots
 fill (Some slots) (k ∷ ks) = fill (filled slots k) ks
+
+abbrev pub every : (ℕ → Bool) → List ℕ → Bool
+every test [] = true
+every test (k ∷ ks) = test k && every test ks
+
+-- As many children as a slot may take.
+abbrev pub Fitting : Times → ℕ → Type 0
+Fitting times.One n = n ≡ 1
+Fitting times.Perhaps n = n ≤ 1
+Fitting times.Many n = Unit {0}
+
+-- What filling comes to: the children are one run for each slot, in the order of the slots, each run of the slot's class and as long
+-- as the slot may take.
+abbrev pub Arranged : List Slot → List ℕ → Type 0
+Arranged [] ks = ks ≡ []
+Arranged (s ∷ rest) ks =
+    (run : List ℕ)
+    × ((later : List ℕ)
+    × ((ks ≡ run ++ later)
+    × ((every (of-class (s .class)) run ≡ true) × (Fitting (s .times) (length run) × Arranged rest later))))

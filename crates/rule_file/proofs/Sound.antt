@@ -23,6 +23,7 @@ use Rattle.nodes.specs.Tree.{bad-size, too-deep}
 use Rattle.nodes.specs.declared.node.Node.{Node}
 use Rattle.tree.specs.Spans.{Spanned}
 use Rattle.tree.proofs.Nesting.{spanned, shallow}
+use Rattle.tree.proofs.Arranging.{arranged}
 use Rattle.tree.proofs.Families.{family}
 use Rattle.finding.specs.Search.{first-of}
 use Rattle.finding.specs.declared.Finding.{Finding}
@@ -93,7 +94,7 @@ module _ (file : List ℕ) (clear : Clear causes file) where
         name = s .name;
         value = s .value;
         size = ap (λ z. i + z) (sym (s .size ∙ (λ j. e4 j + e5 j * 256)));
-        children = children-fill body i (n .kind) k (not-false _ (children-at i l .0));
+        children = arranged _ _ (children-fill body i (n .kind) k (not-false _ (children-at i l .0)));
       }
 
   good-node : (i : ℕ) → i < node-count file → (n : Node) × GoodNode file i n

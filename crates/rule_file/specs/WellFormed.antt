@@ -15,7 +15,7 @@ use Rattle.layout.specs.Texts.{identifier, keyword, all, string-byte, size-of}
 use Rattle.nodes.specs.Nodes.{count, node-at}
 use Rattle.nodes.specs.Fields.{fields, value-fits}
 use Rattle.nodes.specs.Tree.{children}
-use Rattle.nodes.specs.Shapes.{shape, fill}
+use Rattle.nodes.specs.Shapes.{shape, Arranged}
 use Rattle.layout.specs.Faults.{end-of, kind-byte}
 use Rattle.nodes.specs.declared.node.Node.{Node}
 use Rattle.tree.specs.Spans.{Spanned, Shallow, Family}
@@ -47,7 +47,7 @@ pub record GoodString (file : List ℕ) (k : ℕ) : Type 0 where
   pub size : between 0 63 (length (text (string-at file k))) ≡ true
   pub bytes : all string-byte (text (string-at file k)) ≡ true
 
--- Node i is n: its tag, name and value are as its kind allows, and its children fill the slots of its kind.
+-- Node i is n: its tag, name and value are as its kind allows, and its children are arranged in the slots of its kind.
 pub record GoodNode (file : List ℕ) (i : ℕ) (n : Node) : Type 0 where
   pub shown : node-at (node-body file) i ≡ Some n
   pub kind : kind-byte (node-body file) i ≡ number (n .kind)
@@ -55,7 +55,7 @@ pub record GoodNode (file : List ℕ) (i : ℕ) (n : Node) : Type 0 where
   pub name : cond (fields (n .kind) .named) (ltb (n .name) (length (names file))) (eqb (n .name) 0) ≡ true
   pub value : value-fits (fields (n .kind) .value) (n .tag) (length (strings file)) (n .value) ≡ true
   pub size : ends file i ≡ i + n .size
-  pub children : fill (Some (shape (n .kind))) (map (kind-byte (node-body file)) (children (ends file) i)) ≡ true
+  pub children : Arranged (shape (n .kind)) (map (kind-byte (node-body file)) (children (ends file) i))
 
 pub record WellFormed (file : List ℕ) : Type 0 where
   -- together with the head, the bodies are the file

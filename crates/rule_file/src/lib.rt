@@ -39,9 +39,7 @@ pub fn examine(file: &[u8]) -> Result<Reader<'_>, Finding<FileFault>>
     }
 }
 
-/// The worked cases, which the definitions compute.
-pub fn cases_stand() -> u8
+/// The worked cases, which the definitions compute. The call does nothing: its contract is the cases.
+pub fn cases_stand()
     ensures { λ _. ⌜ Cases ⌝ }
-{
-    0
-}
+{}

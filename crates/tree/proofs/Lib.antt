@@ -1,3 +1,4 @@
 pub mod Nesting
 pub mod Filling
 pub mod Families
+pub mod Arranging

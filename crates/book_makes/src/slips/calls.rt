@@ -19,7 +19,7 @@ use std::alloc::AllocError;
 use std::alloc::Global;
 
 impl SlipsBook {
-    /// A book without a value, of so many lots, cut at 4,096, and so many slips. It fails for want of memory alone.
+    /// A book without a value, of so many lots, cut at 4,096, and so many slips. `Err` says that memory is wanting.
     pub fn new(heap: Global, lots: u32, slips: u32) -> Result<SlipsBook, AllocError>
         ensures { λ r. ⌜ made r (λ book. slips-meaning book ≡ empty-slips (min lots 4096) slips) ⌝ }
     {

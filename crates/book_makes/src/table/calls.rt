@@ -15,7 +15,7 @@ use std::alloc::AllocError;
 use std::alloc::Global;
 
 impl TableBook {
-    /// A table without a value, of so many rows, one to a lot, cut at 4,096. It fails for want of memory alone.
+    /// A table without a value, of so many rows, one to a lot, cut at 4,096. `Err` says that memory is wanting.
     pub fn new(heap: Global, rows: u32) -> Result<TableBook, AllocError>
         ensures { λ r. ⌜ made r (λ book. table-meaning book ≡ empty-table (min rows 4096)) ⌝ }
     {
