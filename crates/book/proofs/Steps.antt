@@ -8,7 +8,7 @@ use lib.Seq.{drop-cons}
 use Rattle.std.proofs.shelf.Lists.{drop-all, append-nil}
 use Rattle.book.specs.Meanings.{Meaning}
 use Rattle.book.specs.Calls.{answer-of, after, answers, after-all}
-use Rattle.book.specs.Values.{entry, in-columns, in-lots}
+use Rattle.book.specs.Values.{entry, in-columns, values-below}
 use Rattle.book.specs.declared.calls.Call.{Call}
 use Rattle.book.specs.declared.calls.Answer.{Answer}
 use Rattle.book.specs.declared.values.Entry.{Entry}
@@ -28,5 +28,5 @@ calls-all cs i m told h = (rw (drop-all, append-nil) refl, rw drop-all refl)
 pub columns-more : (m : Meaning) (l c : ℕ) (found : List Entry) → (found ++ in-columns m l c) ++ entry l c (m .value c l) ≡ found ++ in-columns m l (c + 1)
 columns-more m l c found = rw (add-one, append-assoc) refl
 
-pub lots-more : (m : Meaning) (l : ℕ) → in-lots m l ++ in-columns m l 8 ≡ in-lots m (l + 1)
+pub lots-more : (m : Meaning) (l : ℕ) → values-below m l ++ in-columns m l 8 ≡ values-below m (l + 1)
 lots-more m l = rw add-one refl

@@ -18,9 +18,9 @@ in-columns m l zero = []
 in-columns m l (suc c) = in-columns m l c ++ entry l c (m .value c l)
 
 -- The values of the lots below l.
-abbrev pub in-lots : Meaning → ℕ → List Entry
-in-lots m zero = []
-in-lots m (suc l) = in-lots m l ++ in-columns m l 8
+abbrev pub values-below : Meaning → ℕ → List Entry
+values-below m zero = []
+values-below m (suc l) = values-below m l ++ in-columns m l 8
 
 abbrev pub all-values : Meaning → List Entry
-all-values m = in-lots m (m .lots)
+all-values m = values-below m (m .lots)

@@ -13,6 +13,7 @@ use crate::words;
 use layout::items::Items;
 use layout::reader::Part;
 use layout::reader::Reader;
+use nodes::bytes::u16_at;
 use std::fmt;
 
 /// The most nodes that are listed: as many as a rule may have.
@@ -84,9 +85,18 @@ impl fmt::Display for Nodes<'_> as NodesDisplay {
             };
             let indent = indentation(self.0, i);
             let (word, details) = words::node_words(self.0, record);
-            writeln!(f, "  {i:>4} {:indent$}{word}{details}", "")?;
+            let spans = span_words(record);
+            writeln!(f, "  {i:>4} {:indent$}{word}{details}{spans}", "")?;
         }
         Ok(())
+    }
+}
+
+// How many nodes a node spans, unless it is itself alone.
+fn span_words<'a>(record: &[u8]) -> Piece<'a> {
+    match u16_at(record, 4) {
+        1 => Piece::Nothing,
+        size => Piece::Number(", spans ", size as i64, ""),
     }
 }
 

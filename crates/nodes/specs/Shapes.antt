@@ -95,14 +95,14 @@ filled (s ∷ rest) k =
     cond (of-class (s .class) k) (Some (cond (again (s .times)) (s ∷ rest) rest)) (cond (asks (s .times)) None (filled rest k))
 
 -- No slot that is left asks for a child.
-abbrev pub content : List Slot → Bool
-content [] = true
-content (s ∷ rest) = not (asks (s .times)) && content rest
+abbrev pub satisfied : List Slot → Bool
+satisfied [] = true
+satisfied (s ∷ rest) = not (asks (s .times)) && satisfied rest
 
 -- Children of these kinds, by number, fill the slots.
 abbrev pub fill : Option (List Slot) → List ℕ → Bool
 fill None ks = false
-fill (Some slots) [] = content slots
+fill (Some slots) [] = satisfied slots
 fill (Some slots) (k ∷ ks) = fill (filled slots k) ks
 
 abbrev pub every : (ℕ → Bool) → List ℕ → Bool

@@ -14,7 +14,7 @@ use Rattle.nodes.specs.Kinds.{kind-of}
 use Rattle.layout.specs.Faults.{end-of, kind-byte, children-fit}
 use Rattle.nodes.specs.Tree.{children, children-from}
 use Rattle.nodes.specs.declared.kind.Kind.{Kind}
-use Rattle.nodes.specs.Shapes.{shape, of-class, again, asks, filled, content, fill}
+use Rattle.nodes.specs.Shapes.{shape, of-class, again, asks, filled, satisfied, fill}
 use Rattle.nodes.specs.declared.shape.Slot.{Slot}
 
 pub filled-none : (xs : List Slot) (k : ℕ) → length xs ≡ 0 → filled xs k ≡ None
@@ -41,14 +41,14 @@ module _ (xs : List Slot) (k : ℕ) (d : Slot) (some : 0 < length xs) where
   pub filled-passed : of-class (getD xs 0 d .class) k ≡ false → asks (getD xs 0 d .times) ≡ false → filled xs k ≡ filled (drop 1 xs) k
   filled-passed a b = filled-first ∙ rw (a, b) refl
 
-pub content-asking : (xs : List Slot) (i : ℕ) (d : Slot) → i < length xs → asks (getD xs i d .times) ≡ true → content (drop i xs) ≡ false
-content-asking xs i d l h = at-drop-more content xs i d l ∙ rw h refl
+pub satisfied-asking : (xs : List Slot) (i : ℕ) (d : Slot) → i < length xs → asks (getD xs i d .times) ≡ true → satisfied (drop i xs) ≡ false
+satisfied-asking xs i d l h = at-drop-more satisfied xs i d l ∙ rw h refl
 
-pub content-passed : (xs : List Slot) (i : ℕ) (d : Slot) → i < length xs → asks (getD xs i d .times) ≡ false → content (drop i xs) ≡ content (drop (i + 1) xs)
-content-passed xs i d l h = at-drop-more content xs i d l ∙ rw h refl
+pub satisfied-passed : (xs : List Slot) (i : ℕ) (d : Slot) → i < length xs → asks (getD xs i d .times) ≡ false → satisfied (drop i xs) ≡ satisfied (drop (i + 1) xs)
+satisfied-passed xs i d l h = at-drop-more satisfied xs i d l ∙ rw h refl
 
-pub content-all : (xs : List Slot) (i : ℕ) → length xs ≤ i → content (drop i xs) ≡ true
-content-all xs i l = at-drop-all content xs i l
+pub satisfied-all : (xs : List Slot) (i : ℕ) → length xs ≤ i → satisfied (drop i xs) ≡ true
+satisfied-all xs i l = at-drop-all satisfied xs i l
 
 -- one child after another, from a child on
 module _ (e kind : ℕ → ℕ) (stop : ℕ) where
@@ -61,14 +61,14 @@ module _ (e kind : ℕ → ℕ) (stop : ℕ) where
       let p : stop - counter ≡ suc (stop - (counter + 1)) = omega arith in
       rw (p, lt-ltb child stop b) (ap (λ s. fill s (map kind (children-from (stop - (counter + 1)) e (e child) stop))) h)
 
-  fill-done : (slots : List Slot) (n child : ℕ) → stop ≤ child → fill (Some slots) (map kind (children-from n e child stop)) ≡ content slots
+  fill-done : (slots : List Slot) (n child : ℕ) → stop ≤ child → fill (Some slots) (map kind (children-from n e child stop)) ≡ satisfied slots
   fill-done slots zero child l = refl
   fill-done slots (suc n) child l = rw (le-ltb child stop l) refl
 
-  pub fill-end : (slots : List Slot) (child counter : ℕ) → stop ≤ child → fill (Some slots) (map kind (children-from (stop - counter) e child stop)) ≡ content slots
+  pub fill-end : (slots : List Slot) (child counter : ℕ) → stop ≤ child → fill (Some slots) (map kind (children-from (stop - counter) e child stop)) ≡ satisfied slots
   fill-end slots child counter l = fill-done slots (stop - counter) child l
 
-  pub fill-all : (slots : List Slot) (child counter : ℕ) → stop ≤ counter → fill (Some slots) (map kind (children-from (stop - counter) e child stop)) ≡ content slots
+  pub fill-all : (slots : List Slot) (child counter : ℕ) → stop ≤ counter → fill (Some slots) (map kind (children-from (stop - counter) e child stop)) ≡ satisfied slots
   fill-all slots child counter l = let p : stop - counter ≡ 0 = omega arith in rw p refl
 
 pub fit-start : (nodes : List ℕ) (i : ℕ) (kind : Kind) (slots : List Slot) (stop : ℕ) → kind-of (kind-byte nodes i) ≡ Some kind → slots ≡ shape kind → stop ≡ end-of nodes i → fill (Some slots) (map (kind-byte nodes) (children-from (stop - (i + 1)) (end-of nodes) (i + 1) stop)) ≡ children-fit nodes i

@@ -4,7 +4,7 @@ ghost use Prim.Native.Nat.{_<_};
 ghost use denote.Ref.{now};
 ghost use Rattle.std.specs.Options.{mapped};
 ghost use Rattle.layout.specs.Faults.{children-fit, bad-children};
-ghost use Rattle.nodes.specs.Shapes.{asks, again, filled, content};
+ghost use Rattle.nodes.specs.Shapes.{asks, again, filled, satisfied};
 use crate::sizes::end;
 use nodes::bytes::byte;
 use nodes::kind::Kind;
@@ -54,8 +54,8 @@ fn left_after(slots: &[Slot], kind: u8) -> Option<&[Slot]>
 }
 
 // Whether no slot that is left asks for a child.
-fn is_content(slots: &[Slot]) -> bool
-    ensures { λ r. ⌜ r ≡ content (now (slots .entry)) ⌝ }
+fn is_satisfied(slots: &[Slot]) -> bool
+    ensures { λ r. ⌜ r ≡ satisfied (now (slots .entry)) ⌝ }
 {
     for slot in slots {
         if is_asking(slot.times) {
@@ -78,7 +78,7 @@ fn do_children_fit(nodes: &[u8], i: usize) -> bool
     let mut child = i + 1;
     for _ in i + 1..stop {
         if child >= stop {
-            return is_content(slots);
+            return is_satisfied(slots);
         }
         let Some(rest) = left_after(slots, byte(nodes, 16 * child)) else {
             return false;
@@ -86,7 +86,7 @@ fn do_children_fit(nodes: &[u8], i: usize) -> bool
         slots = rest;
         child = end(nodes, child);
     }
-    is_content(slots)
+    is_satisfied(slots)
 }
 
 /// Whether the children of node i are not as its kind asks, or node 0 is no program.

@@ -16,7 +16,7 @@ loop-holds c =
 
 pub returns-then-child-stop : need.returns-then-child-stop
 returns-then-child-stop c =
-    c .is-content .ensures
+    c .is-satisfied .ensures
     ∙ sym (fill-end (end-of (c .args .nodes .now)) (kind-byte (c .args .nodes .now)) (c .end-stop .result) (c .loop .slots .now) (c .loop .child) (c .loop .counter) (c .if-child-stop .taken))
     ∙ c .loop .inv
 
@@ -32,6 +32,6 @@ loop-again c =
 
 pub returns : need.returns
 returns c =
-    c .is-content-2 .ensures
+    c .is-satisfied-2 .ensures
     ∙ sym (fill-all (end-of (c .args .nodes .now)) (kind-byte (c .args .nodes .now)) (c .end-stop .result) (c .loop .slots .now) (c .loop .child) (c .loop .counter) (c .loop-test .left))
     ∙ c .loop .inv
