@@ -28,7 +28,7 @@ more-fits times.One n m h f = let z : _≡_ {A = ℕ} 0 1 = cc in absurd (omega 
 more-fits times.Perhaps n m h f = let z : _≡_ {A = ℕ} 0 1 = cc in absurd (omega arith)
 more-fits times.Many n m h f = tt
 
-both-true : (a b : Bool) → (a && b) ≡ true → (a ≡ true) × (b ≡ true)
+pub both-true : (a b : Bool) → (a && b) ≡ true → (a ≡ true) × (b ≡ true)
 both-true true b h = (refl, h)
 both-true false b h = let z : _≡_ {A = ℕ} 0 1 = cc in absurd (omega arith)
 
