@@ -1,0 +1,6 @@
+pub mod Violations
+pub mod Tables
+pub mod Scopes
+pub mod Types
+pub mod Rules
+pub mod Worked
