@@ -7,13 +7,14 @@ use mathlib.Core.List.{List, [], _∷_, map}
 use mathlib.Core.Logic.{_⊎_, inl, inr}
 use lib.Dec.{eqb, leb, ltb}
 use lib.ListN.{length, getD, take, drop, length-drop}
-use borrow.Author.Tests.{ltb-false, eqb-true, eqb-false, lt-ltb}
+use borrow.Author.Tests.{not-false, ltb-false, eqb-true, eqb-false, lt-ltb}
 use Rattle.std.proofs.shelf.Equals.{sameBytes-decides}
 use Rattle.std.proofs.shelf.Lists.{getD-take, getD-drop, length-take-le, length-take}
 use Rattle.std.proofs.shelf.Tests.{cases-lt}
 use Rattle.std.specs.shelf.Text.{sameBytes}
 use Rattle.std.specs.declared.option.Option.{Option}
 use Rattle.std.specs.declared.option.Option.the-variants.{Some, None}
+use Rattle.finding.proofs.Bools.{both, neither}
 use Rattle.nodes.specs.Bytes.{byte, window, le16, le64}
 use Rattle.nodes.specs.Kinds.{number, numbered, kinds, kind-of, between}
 use Rattle.layout.specs.Items.{items, split, text, cut-off}
@@ -25,11 +26,6 @@ use Rattle.nodes.specs.Shapes.{shape, fill}
 use Rattle.layout.specs.Faults.{end-of, kind-byte, slots, children-fit, bad-children}
 use Rattle.nodes.specs.declared.kind.Kind.{Kind}
 use Rattle.nodes.specs.declared.node.Node.{Node}
-use Rattle.rule_file.proofs.Parts.{not-false, both}
-
-pub neither : (a b : Bool) → (a || b) ≡ false → (a ≡ false) × (b ≡ false)
-neither false b h = (refl, h)
-neither true b h = let z : _≡_ {A = ℕ} 0 1 = cc in absurd (omega arith)
 
 -- an item is no longer than its length byte says
 items-short : (n : ℕ) (bs : List ℕ) (k : ℕ) → k < length (items n bs) → length (getD (items n bs) k []) ≤ 1 + getD (getD (items n bs) k []) 0 0

@@ -9,18 +9,11 @@ use lib.ListN.{length, take, drop, length-drop, take-append-drop}
 use borrow.Author.Tests.{eqb-true, leb-true, le-leb}
 use Rattle.std.proofs.shelf.Lists.{take-all, drop-drop, length-take-le}
 use Rattle.std.specs.declared.option.Option.the-variants.{None}
+use Rattle.finding.proofs.Bools.{both}
 use Rattle.nodes.specs.Bytes.{window}
 use Rattle.layout.specs.Head.{part, contents, body-at, node-body, name-body, string-body, sized, contiguous, counted}
 use Rattle.nodes.specs.Kinds.{between}
 use Rattle.nodes.specs.Nodes.{count}
-
-pub not-false : (b : Bool) → not b ≡ false → b ≡ true
-not-false true h = refl
-not-false false h = let z : _≡_ {A = ℕ} 0 1 = cc in absurd (omega arith)
-
-pub both : (a b : Bool) → (a && b) ≡ true → (a ≡ true) × (b ≡ true)
-both true b h = (refl, h)
-both false b h = let z : _≡_ {A = ℕ} 0 1 = cc in absurd (omega arith)
 
 -- the contents, as equations
 pub record Laid (file : List ℕ) : Type 0 where

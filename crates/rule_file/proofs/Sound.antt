@@ -7,10 +7,11 @@ use mathlib.Core.List.{List, [], _++_}
 use mathlib.Core.Logic.{inl, inr}
 use lib.Dec.{eqb, ltb}
 use lib.ListN.{length, getD, take}
-use borrow.Author.Tests.{eqb-true, lt-ltb}
+use borrow.Author.Tests.{not-false, eqb-true, lt-ltb}
 use Rattle.std.proofs.shelf.Tests.{cases-lt}
 use Rattle.std.specs.declared.option.Option.{Option}
 use Rattle.std.specs.declared.option.Option.the-variants.{Some, None}
+use Rattle.finding.proofs.Bools.{neither}
 use Rattle.nodes.specs.Bytes.{byte, window, le16}
 use Rattle.layout.specs.Head.{contents, node-body, sized, edition-one, contiguous, counted, name-body, string-body}
 use Rattle.nodes.specs.Kinds.{kind-of, between}
@@ -31,8 +32,8 @@ use Rattle.layout.specs.declared.fault.FileFault.{FileFault}
 use Rattle.rule_file.specs.Verdict.{causes, first-fault, Judged}
 use Rattle.rule_file.specs.WellFormed.{ends, node-count, name-at, string-at, GoodName, GoodString, GoodNode, WellFormed}
 use Rattle.rule_file.proofs.Judging.{Clear, first-joined, first-clear}
-use Rattle.rule_file.proofs.Parts.{Laid, laid, not-false, bodies-whole, few, few-between}
-use Rattle.rule_file.proofs.Local.{neither, item-short, Fit, fit, unlike, kind-number, byte-window, Shown, record-shown, children-fill}
+use Rattle.rule_file.proofs.Parts.{Laid, laid, bodies-whole, few, few-between}
+use Rattle.rule_file.proofs.Local.{item-short, Fit, fit, unlike, kind-number, byte-window, Shown, record-shown, children-fill}
 
 -- at most 255 items, where no 256th was met
 few-items : (all : List (List ℕ)) (least most : ℕ) → ((k : ℕ) → k < length all → Fit least most k (getD all k [])) → length all ≤ 255

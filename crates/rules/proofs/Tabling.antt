@@ -7,11 +7,12 @@ use mathlib.Core.Logic.{inl, inr}
 use mathlib.Core.Path.{_≡_, refl, sym, _∙_, ap, subst, fun-ext}
 use lib.Dec.{eqb, leb, ltb}
 use lib.ListN.{length, getD, length-append}
-use borrow.Author.Tests.{eqb-true}
+use borrow.Author.Tests.{not-false, eqb-true}
 use Rattle.std.proofs.shelf.Lists.{getD-past, getD-push, getD-append-left, length-map}
 use Rattle.std.proofs.shelf.Tests.{cases-lt}
 use Rattle.std.specs.Options.{valueOr}
 use Rattle.std.specs.declared.option.Option.the-variants.{Some, None}
+use Rattle.finding.proofs.Bools.{both}
 use Rattle.nodes.specs.Bytes.{byte, le16}
 use Rattle.nodes.specs.Kinds.{number, between}
 use Rattle.nodes.specs.Fields.{fields, value-fits}
@@ -26,7 +27,7 @@ use Rattle.tree.specs.Spans.{Spanned, Shallow, Family, Chain}
 use Rattle.rule_file.specs.Verdict.{causes, first-fault}
 use Rattle.rule_file.specs.WellFormed.{ends, node-count, GoodNode, WellFormed}
 use Rattle.rule_file.proofs.Judging.{first-clear}
-use Rattle.rule_file.proofs.Parts.{laid, nodes-long, not-false, both}
+use Rattle.rule_file.proofs.Parts.{laid, nodes-long}
 use Rattle.rule_file.proofs.Sound.{well-formed}
 use Rattle.rules.specs.Tables.{Table, blank, tabulate, table-of, node, kind-at, end}
 use Rattle.rules.specs.Shaped.{Fitting-node, Shaped, Tables-shaped}

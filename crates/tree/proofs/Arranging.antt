@@ -7,6 +7,7 @@ use mathlib.Core.List.{List, [], _∷_, _++_}
 use lib.ListN.{length}
 use Rattle.std.specs.declared.option.Option.{Option}
 use Rattle.std.specs.declared.option.Option.the-variants.{Some, None}
+use Rattle.finding.proofs.Bools.{both, not-true}
 use Rattle.nodes.specs.Shapes.{of-class, again, asks, filled, satisfied, fill, every, Fitting, Arranged}
 use Rattle.nodes.specs.declared.shape.Slot.{Slot}
 use Rattle.nodes.specs.declared.shape.Times.{Times}
@@ -28,19 +29,11 @@ more-fits times.One n m h f = let z : _≡_ {A = ℕ} 0 1 = cc in absurd (omega 
 more-fits times.Perhaps n m h f = let z : _≡_ {A = ℕ} 0 1 = cc in absurd (omega arith)
 more-fits times.Many n m h f = tt
 
-pub both-true : (a b : Bool) → (a && b) ≡ true → (a ≡ true) × (b ≡ true)
-both-true true b h = (refl, h)
-both-true false b h = let z : _≡_ {A = ℕ} 0 1 = cc in absurd (omega arith)
-
-not-true : (b : Bool) → not b ≡ true → b ≡ false
-not-true false h = refl
-not-true true h = let z : _≡_ {A = ℕ} 0 1 = cc in absurd (omega arith)
-
 -- slots that ask for nothing, and no child
 idle : (slots : List Slot) → satisfied slots ≡ true → Arranged slots []
 idle [] h = refl
 idle (s ∷ rest) h =
-    let p = both-true (not (asks (s .times))) (satisfied rest) h in
+    let p = both (not (asks (s .times))) (satisfied rest) h in
     ([], ([], (refl, (refl, (none-fits (s .times) (not-true (asks (s .times)) (p .0)), idle rest (p .1))))))
 
 -- a slot that is passed over takes no child

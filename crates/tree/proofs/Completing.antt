@@ -11,6 +11,7 @@ use lib.ListN.{length}
 use Rattle.std.specs.declared.option.Option.{Option}
 use Rattle.std.specs.declared.option.Option.the-variants.{Some, None}
 use Rattle.std.proofs.shelf.Ways.{tells}
+use Rattle.finding.proofs.Bools.{both}
 use Rattle.nodes.specs.Shapes.{of-class, again, asks, filled, satisfied, fill, every, Fitting, Arranged, shape}
 use Rattle.nodes.specs.declared.kind.Kind.{Kind}
 use Rattle.nodes.specs.declared.kind.Kind.the-variants.{Program, Import, ScalarDeclaration, ArrayDeclaration, Method, Parameter, Block, Assignment, Step, CallStatement, If, For, While, Return, Break, Continue, ScalarLocation, ArrayLocation, Literal, Unary, Cast, Call, Len, Binary, Text}
@@ -19,7 +20,6 @@ use Rattle.nodes.specs.declared.shape.Class.the-variants as class
 use Rattle.nodes.specs.declared.shape.Slot.{Slot}
 use Rattle.nodes.specs.declared.shape.Times.{Times}
 use Rattle.nodes.specs.declared.shape.Times.the-variants as times
-use Rattle.tree.proofs.Arranging.{both-true}
 
 -- No kind is of both classes.
 abbrev Apart : Class → Class → Type 0
@@ -67,7 +67,7 @@ first-apart c (s ∷ rest) k ks p a = by-run (a .0) (a .1 .0) (a .1 .1 .0) (a .1
   where
     by-run : (run later : List ℕ) → k ∷ ks ≡ run ++ later → every (of-class (s .class)) run ≡ true → Arranged rest later → (Arranged rest (k ∷ ks) → of-class c k ≡ false) → of-class c k ≡ false
     by-run [] later e h b r = r (rw e b)
-    by-run (x ∷ run) later e h b r = let q : k ≡ x = cc in p .0 k (rw q (both-true (of-class (s .class) x) (every (of-class (s .class)) run) h .0))
+    by-run (x ∷ run) later e h b r = let q : k ≡ x = cc in p .0 k (rw q (both (of-class (s .class) x) (every (of-class (s .class)) run) h .0))
 
 -- one child less, in slots for perhaps a child
 fewer : (t : Times) (n m : ℕ) → t ≡ times.Perhaps → m ≤ n → Fitting t n → Fitting t m
@@ -83,7 +83,7 @@ one-less (s ∷ rest) k ks p a = by-run (a .0) (a .1 .0) (a .1 .1 .0) (a .1 .1 .
     by-run [] later e h f b r = ([], (ks, (refl, (refl, (f, r (rw e b))))))
     by-run (x ∷ run) later e h f b r =
         let q : ks ≡ run ++ later = cc in
-        (run, (later, (q, (both-true (of-class (s .class) x) (every (of-class (s .class)) run) h .1, (fewer (s .times) (length (x ∷ run)) (length run) (p .0) (omega arith) f, b)))))
+        (run, (later, (q, (both (of-class (s .class) x) (every (of-class (s .class)) run) h .1, (fewer (s .times) (length (x ∷ run)) (length run) (p .0) (omega arith) f, b)))))
 
 -- a child that goes into the first slot, or passes it over
 goes-again : (s : Slot) (rest : List Slot) (k : ℕ) → of-class (s .class) k ≡ true → again (s .times) ≡ true → filled (s ∷ rest) k ≡ Some (s ∷ rest)
@@ -113,7 +113,7 @@ module _ (s : Slot) (rest : List Slot) (ih : Completes rest) where
       by-run ks [] later e h n b = absurd (omega arith)
       by-run ks (x ∷ []) later e h n b =
           rw e
-          (ap (λ o. fill o later) (goes-once s rest x (both-true (of-class (s .class) x) true h .0) (ap again t)) ∙ ih later b)
+          (ap (λ o. fill o later) (goes-once s rest x (both (of-class (s .class) x) true h .0) (ap again t)) ∙ ih later b)
       by-run ks (x ∷ (y ∷ run)) later e h n b = absurd (omega arith)
 
   -- a slot for perhaps a child
@@ -137,7 +137,7 @@ module _ (s : Slot) (rest : List Slot) (ih : Completes rest) where
       by-run ks [] later e h n b = rw e (passed-over later b)
       by-run ks (x ∷ []) later e h n b =
           rw e
-          (ap (λ o. fill o later) (goes-once s rest x (both-true (of-class (s .class) x) true h .0) (ap again t)) ∙ ih later b)
+          (ap (λ o. fill o later) (goes-once s rest x (both (of-class (s .class) x) true h .0) (ap again t)) ∙ ih later b)
       by-run ks (x ∷ (y ∷ run)) later e h n b = absurd (omega arith)
 
   -- a slot for many
@@ -152,7 +152,7 @@ module _ (s : Slot) (rest : List Slot) (ih : Completes rest) where
       by-run : (run later : List ℕ) → every (of-class (s .class)) run ≡ true → Arranged rest later → fill (Some (s ∷ rest)) (run ++ later) ≡ true
       by-run [] later h b = passed-over later b
       by-run (x ∷ run) later h b =
-          let q = both-true (of-class (s .class) x) (every (of-class (s .class)) run) h in
+          let q = both (of-class (s .class) x) (every (of-class (s .class)) run) h in
           ap (λ o. fill o (run ++ later)) (goes-again s rest x (q .0) (ap again t)) ∙ by-run run later (q .1) b
 
 by-times : (t : Times) (s : Slot) (rest : List Slot) → s .times ≡ t → Orderly-at t s rest → Completes rest → Completes (s ∷ rest)

@@ -15,6 +15,7 @@ use Rattle.std.specs.declared.option.Option.{Option}
 use Rattle.std.specs.declared.option.Option.the-variants.{Some, None}
 use Rattle.nodes.specs.Tree.{holder, parent, around, ancestors, depth, bad-size, too-deep}
 use Rattle.finding.specs.Search.{lowest}
+use Rattle.finding.proofs.Bools.{neither}
 use Rattle.finding.proofs.Lowest.{none-lowest}
 use Rattle.tree.specs.Spans.{Spanned, Shallow}
 use Rattle.tree.specs.Stack.{held, Sound, Stacked}
@@ -29,11 +30,6 @@ held-set xs (suc n) j v l =
 length-held : (xs : List ℕ) (n : ℕ) → length (held xs n) ≡ n
 length-held xs zero = refl
 length-held xs (suc n) = ap suc (length-held xs n)
-
--- tests of two parts
-pub either-false : (a b : Bool) → (a || b) ≡ false → (a ≡ false) × (b ≡ false)
-either-false false b h = (refl, h)
-either-false true b h = let z : _≡_ {A = ℕ} 0 1 = cc in absurd (omega arith)
 
 -- the highest that spans, and no node between
 pub record Holds (e : ℕ → ℕ) (i n p : ℕ) : Type 0 where
@@ -93,7 +89,7 @@ fault-later e n i l = rw (ne-eqb i 0 (λ q. omega arith)) refl
 
 pub sound-later : (e : ℕ → ℕ) (n i : ℕ) → 0 < i → bad-size e n i ≡ false → (i < e i) × (e i ≤ e (parent e i))
 sound-later e n i l h =
-    let p = either-false (leb (e i) i) (ltb (e (parent e i)) (e i)) (sym (fault-later e n i l) ∙ h) in
+    let p = neither (leb (e i) i) (ltb (e (parent e i)) (e i)) (sym (fault-later e n i l) ∙ h) in
     (leb-false (e i) i (p .0), ltb-false (e (parent e i)) (e i) (p .1))
 
 -- Where no size below m is at fault, what begins in a node ends in it.
