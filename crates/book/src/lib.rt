@@ -6,6 +6,8 @@
 //
 // Proved here: the laws of a meaning (`laws`), and that one call, a list of calls (`calls`) and the list of all values
 // (`values`) answer what the meaning says. Not promised: how long a call takes, which is for each make to say.
+#![tactic(auto)]
+
 ghost use Rattle.std.specs.Prelude.{◌≡◌, ◌≤◌};
 ghost use Rattle.book.specs.Meanings.{Meaning, put_answer, put_after, get_answer};
 

@@ -1,4 +1,6 @@
 // The two makes of book against each other, on one table of calls with their answers.
+#![tactic(auto)]
+
 #[cfg(test)]
 mod tests {
     use book::Book;

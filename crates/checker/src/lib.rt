@@ -4,6 +4,8 @@
 // first violation of the definitions (the lowest node at which a rule is broken, and of that node the lowest rule; and then too many
 // cells); or it gives the rule with what a run needs, each exactly as defined: for every node the declaration that its name means, its
 // type, a variable's place among the cells, and a method's body block. What acceptance gives of every node is said in `rule_laws`.
+#![tactic(auto)]
+
 ghost use Rattle.std.specs.Prelude.{◌≡◌, length};
 ghost use Rattle.layout.specs.Readers.{file_of};
 ghost use Rattle.names.specs.Resolved.{NamesTold};

@@ -2,6 +2,8 @@
 //
 // Proved here: a cause has the number that its definition gives it, and a finding answers that number with its place.
 // What the causes are is for the crates above to say: faults of a file, violations of the rules, stops of a run.
+#![tactic(auto)]
+
 ghost use Rattle.std.specs.Prelude.{◌≡◌, ℕ};
 
 /// A cause with the place where it was found: a name's, a string's or a node's number, or 0 for the file as a whole.

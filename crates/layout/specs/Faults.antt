@@ -3,7 +3,7 @@
 -- A file is examined cause by cause, in the order of their numbers, and of one cause the lowest place is told. So a name
 -- of a wrong length precedes a name that is a keyword, wherever the two stand. A later cause is only looked at where the
 -- earlier ones do not apply, and its test means little elsewhere.
-use Rattle.std.specs.Prelude.{ℕ, ◌+◌, ◌*◌, Bool, cond, not, ◌&&◌, ◌||◌, List, [], ◌∷◌, map, length, take, Some, None, Option, ◌==◌, slice_index_or}
+use Rattle.std.specs.Prelude.{ℕ, ◌+◌, ◌*◌, Bool, not, ◌&&◌, ◌||◌, List, [], ◌∷◌, map, length, take, Some, None, Option, ◌==◌, slice_index_or}
 use Rattle.finding.specs.Search.{lowest}
 use Rattle.finding.specs.declared.Finding.{Finding}
 use Rattle.nodes.specs.Bytes.{byte, window, le16}

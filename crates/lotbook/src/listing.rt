@@ -2,7 +2,7 @@
 //
 // A damaged file is listed as far as it goes.
 use crate::text::{Phrase, Piece, Shown};
-use crate::{tree, verdict, words};
+use crate::{outline, verdict, words};
 use layout::items::Items;
 use layout::reader::{Part, Reader};
 use nodes::bytes::u16_at;
@@ -94,7 +94,7 @@ fn span_words<'a>(record: &[u8]) -> Piece<'a> {
 
 // Two spaces for each node above it.
 fn indentation(reader: Reader, i: u32) -> usize {
-    2 * tree::depth(reader.node_body(), i)
+    2 * outline::depth(reader.node_body(), i)
         .min(MOST_DEPTH)
         .saturating_sub(1)
 }

@@ -1,4 +1,6 @@
 // Lotbook on the command line: checks rule files, shows what they hold, and works on books of lots by a script.
+#![tactic(auto)]
+
 use crate::listing::Listing;
 use crate::running::run_script;
 use crate::verdict::{MOST_BYTES, Verdict};
@@ -6,14 +8,15 @@ use layout::reader::Reader;
 use std::env::Args;
 use std::io::Read;
 use std::iter::Skip;
+use std::process::ExitCode;
 use std::{env, fs, io};
 
 mod books;
 mod listing;
+mod outline;
 mod running;
 mod script;
 mod text;
-mod tree;
 mod verdict;
 mod words;
 
@@ -74,10 +77,6 @@ enum Seen {
     Refused,
     Unreadable,
 }
-
-/// The process ends with status 1: what was wrong has been said.
-#[derive(Drop)]
-struct Failed;
 
 /// The bytes of a file, but no more than one past the most that a rule file has: a longer one is refused by its size, and
 /// need not be held in memory.
@@ -154,13 +153,14 @@ fn run(rt: &HostRuntime) -> io::Result<bool> {
     }
 }
 
-fn main(rt: HostRuntime) -> Result<(), Failed> {
+/// The process ends with status 1 where something was wrong, which has been said.
+fn main(rt: HostRuntime) -> ExitCode {
     match run(&rt) {
-        Ok(true) => Ok(()),
-        Ok(false) => Err(Failed),
+        Ok(true) => ExitCode::SUCCESS,
+        Ok(false) => ExitCode::FAILURE,
         Err(reason) => {
             let _ = eprintln!(rt; "lotbook: {reason}");
-            Err(Failed)
+            ExitCode::FAILURE
         }
     }
 }

@@ -1,6 +1,6 @@
 // The verdict on a file: good, or refused for a fault, with a sentence that says what is wrong and where.
 use crate::text::{Phrase, Piece};
-use crate::{tree, words};
+use crate::{outline, words};
 use finding::Finding;
 use layout::fault::FileFault;
 use layout::items::Items;
@@ -100,7 +100,7 @@ fn node_place<'a>(reader: Reader<'a>, i: u32) -> Phrase<'a> {
         Some(node) => words::noun(node.kind),
         None => "of no known kind",
     };
-    let depth = tree::depth(reader.node_body(), i);
+    let depth = outline::depth(reader.node_body(), i);
     Phrase(
         Piece::Number("node ", i as i64, ", "),
         Piece::Words(noun),
@@ -326,7 +326,7 @@ fn against_value(rule: Value) -> &'static str {
 
 fn size<'a>(reader: Reader<'a>, i: u32) -> Phrase<'a> {
     let nodes = reader.node_body();
-    let size = tree::size_of(nodes, i) as i64;
+    let size = outline::size_of(nodes, i) as i64;
     if i == 0 {
         let all = Piece::count(", and node 0 spans all ", reader.node_count(), " nodes");
         return Phrase::two(Piece::Number("the size ", size, ""), all);
@@ -334,11 +334,11 @@ fn size<'a>(reader: Reader<'a>, i: u32) -> Phrase<'a> {
     if size == 0 {
         return Phrase::one(Piece::Words("the size 0, and a node spans itself at least"));
     }
-    let parent = tree::parent(nodes, i);
+    let parent = outline::parent(nodes, i);
     Phrase(
         Piece::Number("the size ", size, ""),
         Piece::Number(", and its parent, node ", parent as i64, ""),
-        Piece::count(", ends before node ", tree::end_of(nodes, parent), ""),
+        Piece::count(", ends before node ", outline::end_of(nodes, parent), ""),
     )
 }
 
@@ -363,7 +363,7 @@ fn children<'a>(reader: Reader<'a>, i: u32) -> Phrase<'a> {
 
 // How many children a node has by the sizes. No more than 1,024 are counted, so that sizes of 0 do no harm.
 fn child_count(reader: Reader, i: u32) -> u32 {
-    let end = tree::end_of(reader.node_body(), i);
+    let end = outline::end_of(reader.node_body(), i);
     let mut child = i as usize + 1;
     for count in 0..1024 {
         let Some(node) = reader.node(child) else {

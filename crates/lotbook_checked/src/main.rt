@@ -1,10 +1,13 @@
 // Lotbook on the command line: checks rule files, shows what they hold, and works on books of lots by a script.
+#![tactic(auto)]
+
 use crate::running::run_script;
 use report::listing::Listing;
 use report::verdict::Verdict;
 use std::env::Args;
 use std::io::Read;
 use std::iter::Skip;
+use std::process::ExitCode;
 use std::{env, fs, io};
 use wording::words::MOST_BYTES;
 
@@ -70,10 +73,6 @@ enum Seen {
     Refused,
     Unreadable,
 }
-
-/// The process ends with status 1: what was wrong has been said.
-#[derive(Drop)]
-struct Failed;
 
 /// The bytes of a file, but no more than one past the most that a rule file has: a longer one is refused by its size, and
 /// need not be held in memory.
@@ -152,13 +151,14 @@ fn run(rt: &HostRuntime) -> io::Result<bool> {
     }
 }
 
-fn main(rt: HostRuntime) -> Result<(), Failed> {
+/// The process ends with status 1 where something was wrong, which has been said.
+fn main(rt: HostRuntime) -> ExitCode {
     match run(&rt) {
-        Ok(true) => Ok(()),
-        Ok(false) => Err(Failed),
+        Ok(true) => ExitCode::SUCCESS,
+        Ok(false) => ExitCode::FAILURE,
         Err(reason) => {
             let _ = eprintln!(rt; "lotbook: {reason}");
-            Err(Failed)
+            ExitCode::FAILURE
         }
     }
 }

@@ -1,12 +1,11 @@
 -- A node's context, by its parent's.
-use Rattle.std.proofs.Common.{◌≡◌, ℕ, ◌+◌, ◌<◌, ◌≤◌, Bool, true, false, cond, ◌||◌, eqb, ◌≢◌, List, length, get_or, set, Some, None, Option, sym, refl, ap, ◌∙◌, inl, inr, arith}
+use Rattle.std.proofs.Common.{◌≡◌, ℕ, ◌+◌, ◌<◌, ◌≤◌, Bool, false, cond, ◌||◌, eqb, ◌≢◌, List, length, get_or, set, None, sym, refl, ap, ◌∙◌, inl, inr, arith}
 use Rattle.std.proofs.lemmas.Bool.Decides.{nat_tests}
 use Rattle.std.proofs.lemmas.List.{get_or-set_same, get_or-set_other}
 use Rattle.std.proofs.lemmas.Bool.{cases_lt}
-use Rattle.nodes.specs.Kinds.{number, between}
+use Rattle.nodes.specs.Kinds.{between}
 use Rattle.nodes.specs.Tree.{parent, ancestors}
 use Rattle.nodes.specs.declared.node.Node.{Node}
-use Rattle.tree.specs.Spans.{Spanned}
 use Rattle.node_rules.specs.Tables.{node, kind_at, end, any}
 use Rattle.node_rules.specs.Scopes.{above, declares, uses, scope, in_force, chosen, node_of, first_method, in_loop, method_of, meant, place, context, is_variable, cells_in}
 use Rattle.node_rules.specs.declared.context.Context.{Context}

@@ -1,12 +1,12 @@
 -- Nodes within nodes: from a node to its first child and to the next, what is in force stays, but for the node's own name.
-use Rattle.std.proofs.Common.{◌≡◌, ℕ, zero, suc, ◌+◌, ◌<◌, ◌≤◌, Bool, true, false, cond, ◌&&◌, ltb, ◌⊎◌, List, [], ◌∷◌, ◌++◌, length, get_or, sym, refl, ap, ◌∙◌, inl, inr, append-nil, add-one, arith, length-append, ltb-false, ltb-true, le-ltb, lt-ltb}
+use Rattle.std.proofs.Common.{◌≡◌, ℕ, zero, suc, ◌+◌, ◌<◌, ◌≤◌, Bool, true, false, cond, ◌&&◌, ltb, List, [], ◌∷◌, ◌++◌, length, sym, refl, ap, ◌∙◌, inl, inr, append-nil, add-one, arith, length-append, le-ltb, lt-ltb}
 use Rattle.std.proofs.lemmas.List.{get_or_past}
 use Rattle.std.proofs.lemmas.Bool.{cases_lt, cond_both}
 use Rattle.nodes.specs.Tree.{holder, parent}
 use Rattle.nodes.specs.declared.node.Node.{Node}
 use Rattle.tree.specs.Spans.{Spanned}
 use Rattle.node_rules.specs.Tables.{node, blank, end}
-use Rattle.node_rules.specs.Scopes.{above, declares, lives, picked, in_force, binding}
+use Rattle.node_rules.specs.Scopes.{declares, lives, picked, in_force, binding}
 use Rattle.names.specs.Walk.{Child, own}
 
 and_no : (b : Bool) → (b && false) ≡ false

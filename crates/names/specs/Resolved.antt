@@ -1,5 +1,5 @@
 -- What resolving the names of a file answers.
-use Rattle.std.specs.Prelude.{◌≡◌, ℕ, ◌≤◌, List, length, take, Some, None, Ok, Err, Result}
+use Rattle.std.specs.Prelude.{◌≡◌, ℕ, List, length, take, Some, None, Ok, Err, Result}
 use Rattle.finding.specs.declared.Finding.{Finding}
 use Rattle.layout.specs.Readers.{file_of}
 use Rattle.layout.specs.declared.fault.FileFault.{FileFault}

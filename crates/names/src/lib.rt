@@ -3,6 +3,8 @@
 // Proved of `resolve`, whatever the bytes: it refuses a file with exactly the first fault of its layout, or gives the file's nodes, and for
 // every node exactly its context as the definitions of scopes give it: its parent, its method, whether it is in a loop, the declaration
 // that its name means there, and a variable's place among the cells. Not looked at here: types, and the rules.
+#![tactic(auto)]
+
 ghost use Rattle.std.specs.Prelude.{◌≡◌, ◌≤◌, None};
 ghost use Rattle.layout.specs.Head.{node_body};
 ghost use Rattle.layout.specs.Readers.{file_of};

@@ -7,7 +7,7 @@ use Rattle.std.specs.Prelude.{ℕ, zero, suc, ◌+◌, ◌-◌, Bool, true, fals
 use Rattle.finding.specs.declared.Finding.{Finding}
 use Rattle.nodes.specs.Kinds.{number, between}
 use Rattle.nodes.specs.declared.kind.Kind.{Kind}
-use Rattle.nodes.specs.declared.kind.Kind.TheVariants.{Program, Import, ScalarDeclaration, ArrayDeclaration, Method, Parameter, Assignment, Step, CallStatement, If, For, While, Return, Break, Continue, ScalarLocation, ArrayLocation, Literal, Unary, Cast, Call, Len, Binary, Text}
+use Rattle.nodes.specs.declared.kind.Kind.TheVariants.{Program, Import, ScalarDeclaration, ArrayDeclaration, Method, Parameter, Assignment, Step, CallStatement, For, Return, ScalarLocation, ArrayLocation, Literal, Unary, Cast, Call, Len, Binary, Text}
 use Rattle.nodes.specs.declared.node.Node.{Node}
 use Rattle.node_rules.specs.Tables.{Table, node, parts}
 use Rattle.node_rules.specs.Scopes.{above, meant, repeated, in_loop, method_of, fits_32, cells_of}
@@ -17,7 +17,7 @@ use Rattle.node_rules.specs.declared.facts.Declared.{Declared}
 use Rattle.node_rules.specs.declared.facts.Held.{Held}
 use Rattle.node_rules.specs.declared.facts.Facts.{Facts}
 use Rattle.node_rules.specs.declared.types.Ty.{Ty}
-use Rattle.node_rules.specs.declared.types.Ty.TheVariants.{Int, Long, Bool as Truth}
+use Rattle.node_rules.specs.declared.types.Ty.TheVariants.{Int, Bool as Truth}
 use Rattle.node_rules.specs.declared.violation.Violation.{Violation}
 use Rattle.node_rules.specs.declared.violation.Violation.TheVariants.{RepeatedName, Undeclared, NoMain, EmptyArray, Arguments, VoidValue, StringArgument, ReturnedValue, MissingResult, NotScalar, NotCallable, NotElement, NotArray, Condition, Arithmetic, Equality, Logic, CastOperand, Assigned, Compound, Index, OutsideLoop, TooLarge, TooManyCells}
 

@@ -4,7 +4,7 @@
 -- declaration is in force at higher nodes of its scope, and so up to the end of its parent: a body block ends with its method. A name
 -- means the declaration in force in the innermost scope, the lowest node there. Nothing here goes over the tree: what is in force at a
 -- node is picked out of the numbers below it.
-use Rattle.std.specs.Prelude.{ℕ, zero, suc, ◌+◌, Bool, true, false, cond, not, ◌&&◌, ◌||◌, List, [], ◌∷◌, ◌++◌, ℤ, pos, negsuc, Some, None, Option, ◌==◌, int_le, nat_lt}
+use Rattle.std.specs.Prelude.{ℕ, zero, suc, ◌+◌, Bool, false, cond, not, ◌&&◌, ◌||◌, List, [], ◌∷◌, ◌++◌, ℤ, pos, negsuc, Some, None, Option, ◌==◌, int_le, nat_lt}
 use Rattle.nodes.specs.Kinds.{number, between}
 use Rattle.nodes.specs.Tree.{parent, ancestors}
 use Rattle.nodes.specs.declared.node.Node.{Node}

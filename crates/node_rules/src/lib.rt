@@ -3,6 +3,8 @@
 //
 // Proved: over what the rules look at of a node, the code finds exactly the lowest rule that is broken there, and its type. What a
 // whole file breaks is found by the crate `checker`, and what follows from the definitions stands in `rule_laws`.
+#![tactic(auto)]
+
 pub mod binding;
 pub mod cells;
 pub mod context;

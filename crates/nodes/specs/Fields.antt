@@ -2,7 +2,7 @@
 --
 -- `fields` is one table: from which to which number the tag goes, whether there is a name, and what the value is. A kind
 -- without a tag has the tag 0 alone.
-use Rattle.std.specs.Prelude.{ℕ, Bool, true, false, cond, not, ◌&&◌, ◌||◌, List, ℤ, pos, Some, None, Option, ◌==◌, int_le, int_lt, nat_lt}
+use Rattle.std.specs.Prelude.{ℕ, Bool, true, false, cond, not, ◌&&◌, List, ℤ, pos, Some, None, Option, ◌==◌, int_le, int_lt, nat_lt}
 use Rattle.nodes.specs.Bytes.{byte, le64}
 use Rattle.nodes.specs.Kinds.{kind_of, between}
 use Rattle.nodes.specs.declared.kind.Kind.{Kind}

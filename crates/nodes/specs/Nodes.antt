@@ -1,5 +1,5 @@
 -- Nodes: records of 16 bytes in one row.
-use Rattle.std.specs.Prelude.{ℕ, ◌+◌, ◌*◌, ◌/◌, cond, List, length, Some, None, Option, nat_lt}
+use Rattle.std.specs.Prelude.{ℕ, ◌*◌, ◌/◌, cond, List, length, Some, None, Option, nat_lt}
 use Rattle.nodes.specs.Bytes.{byte, window, le16, le64}
 use Rattle.nodes.specs.Kinds.{kind_of}
 use Rattle.nodes.specs.declared.kind.Kind.{Kind}

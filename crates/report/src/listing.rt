@@ -8,7 +8,7 @@ use nodes::bytes::u16_at;
 use std::fmt;
 use wording::text::{Phrase, Piece, Shown};
 use wording::words::MOST_NODES;
-use wording::{tree, words};
+use wording::{outline, words};
 
 /// The deepest that a line is indented: as deep as a node may lie.
 const MOST_DEPTH: usize = 64;
@@ -96,7 +96,7 @@ fn span_words<'a>(record: &[u8]) -> Piece<'a> {
 
 // Two spaces for each node above it.
 fn indentation(reader: Reader, i: u32) -> usize {
-    2 * tree::depth(reader.node_body(), i)
+    2 * outline::depth(reader.node_body(), i)
         .min(MOST_DEPTH)
         .saturating_sub(1)
 }

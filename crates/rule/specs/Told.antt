@@ -1,5 +1,5 @@
 -- What an accepted rule tells of its nodes.
-use Rattle.std.specs.Prelude.{ℕ, Bool, false, cond, ◌&&◌, get_or, Some, None, Option, nat_lt, slice_index, slice_index_or}
+use Rattle.std.specs.Prelude.{ℕ, Bool, cond, ◌&&◌, get_or, Some, None, Option, nat_lt, slice_index, slice_index_or}
 use Rattle.nodes.specs.declared.node.Node.{Node}
 use Rattle.names.specs.Walk.{vacant}
 use Rattle.node_rules.specs.Tables.{blank}

@@ -2,6 +2,8 @@
 //
 // Proved: each call tells exactly what the tables have at a node, and nothing past the last one. That the tables are right is what
 // the checker promises of the rules that it makes.
+#![tactic(auto)]
+
 ghost use Rattle.std.specs.Prelude.{◌≡◌};
 ghost use Rattle.rule.specs.Told.{node_in, meant_in, type_in, place_in, body_in};
 

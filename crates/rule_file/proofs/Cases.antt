@@ -1,5 +1,5 @@
 -- The worked cases, one by one, by computation.
-use Rattle.std.proofs.Common.{◌≡◌, ℕ, [], ◌∷◌, ◌++◌, length, take, drop, None, codes, refl}
+use Rattle.std.proofs.Common.{◌≡◌, [], ◌∷◌, ◌++◌, length, take, drop, None, codes, refl}
 use Rattle.finding.specs.Search.{lowest}
 use Rattle.layout.specs.Head.{body_at}
 use Rattle.layout.specs.Items.{split}

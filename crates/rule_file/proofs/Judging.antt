@@ -1,5 +1,5 @@
 -- The first of some causes: no cause applies where there is none, and causes in parts.
-use Rattle.std.proofs.Common.{◌≡◌, ℕ, ◌<◌, Bool, true, false, List, [], ◌∷◌, ◌++◌, Some, None, Option, sym, refl, ap, ◌∙◌, arith}
+use Rattle.std.proofs.Common.{◌≡◌, ℕ, ◌<◌, false, List, [], ◌∷◌, ◌++◌, Some, None, Option, refl, ap, ◌∙◌, arith}
 use Rattle.finding.specs.Search.{first_of}
 use Rattle.finding.proofs.Lowest.{none_lowest}
 use Rattle.finding.specs.declared.Finding.{Finding}

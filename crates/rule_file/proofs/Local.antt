@@ -1,20 +1,19 @@
 -- One name, one string, one node: what the tests that fail nowhere say of it.
-use Rattle.std.proofs.Common.{◌≡◌, ℕ, zero, suc, ◌+◌, ◌-◌, ◌*◌, ◌<◌, ◌≤◌, Bool, true, false, cond, not, ◌&&◌, ◌||◌, eqb, ltb, leb, ◌⊎◌, List, [], ◌∷◌, map, length, get_or, take, drop, Some, None, Option, sym, refl, ap, ◌∙◌, inl, inr, arith, length-drop, ltb-false, lt-ltb, eqb-true}
+use Rattle.std.proofs.Common.{◌≡◌, ℕ, zero, suc, ◌+◌, ◌<◌, ◌≤◌, Bool, true, false, cond, not, ◌||◌, eqb, ltb, List, [], ◌∷◌, map, length, get_or, take, drop, Some, None, Option, sym, refl, ap, ◌∙◌, arith, length-drop, ltb-false, eqb-true}
 use borrow.Author.Tests.{not-false, eqb-false}
 use Rattle.std.proofs.lemmas.Slice.Eq.{bytes_eq-Decides}
 use Rattle.std.proofs.lemmas.List.{get_or-take, get_or-drop, length-take-le, length-take}
-use Rattle.std.proofs.lemmas.Bool.{cases_lt}
 use Rattle.std.specs.Str.{bytes_eq}
 use Rattle.finding.proofs.Bools.{both, neither}
 use Rattle.nodes.specs.Bytes.{byte, window, le16, le64}
 use Rattle.nodes.specs.Kinds.{number, numbered, kinds, kind_of, between}
 use Rattle.layout.specs.Items.{items, split, text, cut_off}
-use Rattle.layout.specs.Texts.{among, identifier, keyword, all, string_byte, size_of, misfit, bad_name, bad_string}
-use Rattle.nodes.specs.Nodes.{count, node_record, with_kind, decoded, node_at}
+use Rattle.layout.specs.Texts.{among, size_of, misfit}
+use Rattle.nodes.specs.Nodes.{with_kind, decoded}
 use Rattle.nodes.specs.Fields.{fields, value_fits, fits, kind_fits, bad_fields}
 use Rattle.nodes.specs.Tree.{children}
 use Rattle.nodes.specs.Shapes.{shape, fill}
-use Rattle.layout.specs.Faults.{end_of, kind_byte, slots, children_fit, bad_children}
+use Rattle.layout.specs.Faults.{end_of, kind_byte, slots, children_fit}
 use Rattle.nodes.specs.declared.kind.Kind.{Kind}
 use Rattle.nodes.specs.declared.node.Node.{Node}
 

@@ -1,9 +1,9 @@
 -- The three bodies of a file whose contents are true.
-use Rattle.std.proofs.Common.{◌≡◌, ℕ, ◌+◌, ◌-◌, ◌*◌, ◌/◌, ◌%◌, ◌<◌, ◌≤◌, Bool, true, false, not, ◌&&◌, eqb, leb, List, [], ◌∷◌, ◌++◌, length, take, drop, None, sym, refl, ap, ◌∙◌, arith, length-drop, take-append-drop, eqb-true, le-leb, leb-true}
+use Rattle.std.proofs.Common.{◌≡◌, ℕ, ◌+◌, ◌/◌, ◌%◌, ◌≤◌, true, List, ◌++◌, length, take, drop, sym, refl, ap, ◌∙◌, arith, length-drop, take-append-drop, eqb-true, le-leb, leb-true}
 use Rattle.std.proofs.lemmas.List.{take_all, drop-drop, length-take-le}
 use Rattle.finding.proofs.Bools.{both}
 use Rattle.nodes.specs.Bytes.{window}
-use Rattle.layout.specs.Head.{part, contents, body_at, node_body, name_body, string_body, sized, contiguous, counted}
+use Rattle.layout.specs.Head.{part, contents, body_at, node_body, name_body, string_body, contiguous, counted}
 use Rattle.nodes.specs.Kinds.{between}
 use Rattle.nodes.specs.Nodes.{count}
 

@@ -1,17 +1,15 @@
 -- A file without a fault is well formed.
-use Rattle.std.proofs.Common.{◌≡◌, ℕ, ◌+◌, ◌*◌, ◌<◌, ◌≤◌, Bool, true, false, cond, not, ◌&&◌, ◌||◌, eqb, ltb, List, [], ◌++◌, length, get_or, take, Some, None, Option, sym, refl, ap, ◌∙◌, inl, inr, arith, lt-ltb, eqb-true}
+use Rattle.std.proofs.Common.{◌≡◌, ℕ, ◌+◌, ◌*◌, ◌<◌, ◌≤◌, true, false, not, ◌&&◌, eqb, List, [], ◌++◌, length, get_or, Some, None, Option, sym, refl, ap, ◌∙◌, inl, inr, arith, lt-ltb, eqb-true}
 use borrow.Author.Tests.{not-false}
 use Rattle.std.proofs.lemmas.Bool.{cases_lt}
 use Rattle.finding.proofs.Bools.{neither}
-use Rattle.nodes.specs.Bytes.{byte, window, le16}
-use Rattle.layout.specs.Head.{contents, node_body, sized, edition_one, contiguous, counted, name_body, string_body}
+use Rattle.nodes.specs.Bytes.{byte, window}
+use Rattle.layout.specs.Head.{node_body, name_body, string_body}
 use Rattle.nodes.specs.Kinds.{kind_of, between}
-use Rattle.layout.specs.Items.{names, strings, split, text}
-use Rattle.layout.specs.Texts.{identifier, keyword, all, string_byte, size_of, misfit, bad_name, bad_name_length, bad_string, among}
-use Rattle.nodes.specs.Nodes.{count, shown, node_at, node_record}
-use Rattle.nodes.specs.Fields.{bad_fields}
-use Rattle.layout.specs.Faults.{end_of, kind_byte, children_fit, bad_children, first_among, head_causes, text_causes, node_causes}
-use Rattle.nodes.specs.Tree.{bad_size, too_deep}
+use Rattle.layout.specs.Items.{names, strings, text}
+use Rattle.layout.specs.Texts.{identifier, keyword, all, string_byte, misfit}
+use Rattle.nodes.specs.Nodes.{count}
+use Rattle.layout.specs.Faults.{end_of, kind_byte, children_fit, first_among, head_causes, text_causes, node_causes}
 use Rattle.nodes.specs.declared.node.Node.{Node}
 use Rattle.tree.specs.Spans.{Spanned}
 use Rattle.tree.proofs.Nesting.{spanned, shallow}

@@ -1,7 +1,7 @@
 -- What is so of a file without a fault: all that the layers above rely on.
 --
 -- The facts are local: of one name, of one string, of one node with its fields, its children and its parent.
-use Rattle.std.specs.Prelude.{◌≡◌, ℕ, ◌+◌, ◌<◌, ◌≤◌, true, false, cond, List, [], ◌∷◌, ◌++◌, map, length, take, Some, ◌==◌, ◌≢◌, nat_lt, slice_index_or}
+use Rattle.std.specs.Prelude.{◌≡◌, ℕ, ◌+◌, ◌<◌, ◌≤◌, true, false, cond, List, [], ◌++◌, map, length, take, Some, ◌==◌, ◌≢◌, nat_lt, slice_index_or}
 use Rattle.nodes.specs.Kinds.{number, between}
 use Rattle.layout.specs.Head.{node_body, name_body, string_body}
 use Rattle.layout.specs.Items.{names, strings, text}

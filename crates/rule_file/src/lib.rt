@@ -4,6 +4,8 @@
 // cause that applies, the lowest place), or gives a reader over that very file, of which then every name, every string
 // and every node is as it should be (`WellFormed`). Not looked at here: what names mean, types, and the rules of the
 // language.
+#![tactic(auto)]
+
 ghost use Rattle.std.specs.Prelude.{◌≡◌};
 ghost use Rattle.layout.specs.Readers.{file_of};
 ghost use Rattle.rule_file.specs.Verdict.{Judged, Examined};

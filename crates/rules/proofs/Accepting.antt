@@ -1,7 +1,7 @@
 -- Where there is no violation, no rule is broken anywhere.
-use Rattle.std.proofs.Common.{◌≡◌, ℕ, zero, suc, ◌+◌, ◌<◌, ◌≤◌, Bool, true, false, cond, ltb, List, [], ◌∷◌, length, Some, None, Option, sym, refl, ap, ◌∙◌, arith, ltb-false}
+use Rattle.std.proofs.Common.{◌≡◌, ℕ, zero, suc, ◌+◌, ◌<◌, Bool, true, false, cond, ltb, List, [], ◌∷◌, length, Some, None, Option, sym, refl, ap, ◌∙◌, arith, ltb-false}
 use Rattle.finding.specs.declared.Finding.{Finding}
-use Rattle.rules.specs.Accepted.{Kept, AcceptedKeeps}
+use Rattle.rules.specs.Accepted.{AcceptedKeeps}
 use Rattle.rules.specs.Rules.{Facts, broken_by, first_broken, broken, facts_at, found, first_from, or_cells, field_cells, first_violation}
 use Rattle.rules.specs.Tables.{Table}
 use Rattle.rules.specs.Violations.{rules}

@@ -1,14 +1,14 @@
 -- The table of a file without a fault has the file's nodes, names and strings.
-use Rattle.std.proofs.Common.{◌≡◌, ℕ, zero, suc, ◌+◌, ◌-◌, ◌*◌, ◌/◌, ◌%◌, ◌<◌, ◌≤◌, true, cond, ◌&&◌, eqb, ltb, leb, List, [], ◌∷◌, ◌++◌, map, length, get_or, Some, None, unwrap_or, sym, refl, ap, ◌∙◌, subst, inl, inr, arith, length-append, eqb-true}
+use Rattle.std.proofs.Common.{◌≡◌, ℕ, zero, suc, ◌+◌, ◌*◌, ◌/◌, ◌%◌, ◌<◌, ◌≤◌, true, cond, ◌&&◌, eqb, ltb, leb, List, [], ◌∷◌, map, length, get_or, None, unwrap_or, sym, refl, ap, ◌∙◌, subst, inl, inr, arith, length-append, eqb-true}
 use mathlib.Core.Path.{fun_ext}
 use borrow.Author.Tests.{not-false}
 use Rattle.std.proofs.lemmas.List.{get_or_past, get_or_push, get_or_append_left, length-map}
 use Rattle.std.proofs.lemmas.Bool.{cases_lt}
 use Rattle.finding.proofs.Bools.{both}
-use Rattle.nodes.specs.Bytes.{byte, le16}
+use Rattle.nodes.specs.Bytes.{le16}
 use Rattle.nodes.specs.Kinds.{number, between}
 use Rattle.nodes.specs.Fields.{fields, value_fits}
-use Rattle.nodes.specs.Nodes.{count, node_at}
+use Rattle.nodes.specs.Nodes.{node_at}
 use Rattle.nodes.specs.Shapes.{shape, Arranged}
 use Rattle.nodes.specs.Tree.{children}
 use Rattle.nodes.specs.declared.node.Node.{Node}
@@ -17,11 +17,11 @@ use Rattle.layout.specs.Items as items
 use Rattle.layout.specs.Faults.{end_of, kind_byte}
 use Rattle.tree.specs.Spans.{Spanned, Shallow, Family, Chain}
 use Rattle.rule_file.specs.Verdict.{causes, first_fault}
-use Rattle.rule_file.specs.WellFormed.{ends, node_count, GoodNode, WellFormed}
+use Rattle.rule_file.specs.WellFormed.{ends, node_count, WellFormed}
 use Rattle.rule_file.proofs.Judging.{first_clear}
 use Rattle.rule_file.proofs.Parts.{laid, nodes_long}
 use Rattle.rule_file.proofs.Sound.{well_formed}
-use Rattle.rules.specs.Tables.{Table, blank, tabulate, table_of, node, kind_at, end}
+use Rattle.rules.specs.Tables.{blank, tabulate, table_of, node, kind_at, end}
 use Rattle.rules.specs.Shaped.{FittingNode, Shaped, TablesShaped}
 
 tabulate_length : {X : Type 0} (f : ℕ → X) (n : ℕ) → length (tabulate f n) ≡ n

@@ -3,18 +3,17 @@
 -- A rule looks at a node's own fields, at what its name means, at the kinds and types of its children and at a few facts of
 -- where it stands (`Facts`). Types come from the children up, which have higher numbers. The violation is that of the lowest
 -- node, and of that node the lowest rule; after all rules come the cells of the program's own variables.
-use Rattle.std.specs.Prelude.{ℕ, zero, suc, ◌+◌, ◌-◌, ◌^◌, Bool, true, false, cond, not, ◌&&◌, ◌||◌, List, [], ◌∷◌, map, length, ℤ, pos, negsuc, is_some, Some, None, codes, Option, ◌==◌, int_le, nat_le, nat_lt, slice_index_or}
-use Rattle.std.specs.Int.Signed.{lt_z}
+use Rattle.std.specs.Prelude.{ℕ, zero, suc, ◌+◌, ◌-◌, Bool, true, false, cond, not, ◌&&◌, ◌||◌, List, [], ◌∷◌, map, length, ℤ, pos, negsuc, is_some, Some, None, codes, Option, ◌==◌, int_le, nat_le, nat_lt, slice_index_or}
 use Rattle.std.specs.Str.{bytes_eq}
 use Rattle.finding.specs.declared.Finding.{Finding}
 use Rattle.nodes.specs.Kinds.{between}
 use Rattle.nodes.specs.Tree.{parent, children}
 use Rattle.rules.specs.Tables.{Table, node, kind_at, end, any}
-use Rattle.rules.specs.Scopes.{meant, repeated, in_loop, method_of, declares}
+use Rattle.rules.specs.Scopes.{meant, repeated, in_loop, method_of}
 use Rattle.rules.specs.Types.{tagged, fits, all_fit, of_one_type, of_one_number_type, fit_each, has_type}
 use Rattle.rules.specs.Violations.{rules}
 use Rattle.rules.specs.declared.types.Ty.{Ty}
-use Rattle.rules.specs.declared.types.Ty.TheVariants.{Int, Long, Bool as Truth}
+use Rattle.rules.specs.declared.types.Ty.TheVariants.{Int, Bool as Truth}
 use Rattle.rules.specs.declared.violation.Violation.{Violation}
 use Rattle.rules.specs.declared.violation.Violation.TheVariants.{RepeatedName, Undeclared, NoMain, EmptyArray, Arguments, VoidValue, StringArgument, ReturnedValue, MissingResult, NotScalar, NotCallable, NotElement, NotArray, Condition, Arithmetic, Equality, Logic, CastOperand, Assigned, Compound, Index, OutsideLoop, TooLarge, TooManyCells}
 

@@ -2,7 +2,7 @@
 --
 -- The table of a file that keeps the layout has every node of it; what stands past the end, or for a kind that is unknown, is a
 -- node that spans nothing.
-use Rattle.std.specs.Prelude.{ℕ, zero, suc, ◌+◌, Bool, true, false, ◌||◌, List, [], ◌∷◌, ◌++◌, map, length, pos, slice_index_or}
+use Rattle.std.specs.Prelude.{ℕ, zero, suc, ◌+◌, Bool, false, ◌||◌, List, [], ◌∷◌, ◌++◌, map, pos, slice_index_or}
 use Rattle.std.specs.Option.{unwrap_or}
 use Rattle.nodes.specs.Kinds.{number}
 use Rattle.nodes.specs.Nodes.{count, node_at}

@@ -4,7 +4,7 @@ use Rattle.finding.specs.declared.Finding.{Finding}
 use Rattle.rules.specs.Rules.{first_violation}
 use Rattle.rules.specs.Tables.{table_of}
 use Rattle.rules.specs.declared.violation.Violation.{Violation}
-use Rattle.rules.specs.declared.violation.Violation.TheVariants.{RepeatedName, Undeclared, NoMain, EmptyArray, Arguments, VoidValue, StringArgument, ReturnedValue, MissingResult, NotScalar, NotCallable, NotElement, NotArray, Condition, Arithmetic, Equality, Logic, CastOperand, Assigned, Compound, Index, OutsideLoop, TooLarge, TooManyCells}
+use Rattle.rules.specs.declared.violation.Violation.TheVariants.{RepeatedName, Undeclared, NoMain, EmptyArray, Arguments, VoidValue, ReturnedValue, MissingResult, NotScalar, NotCallable, Condition, Arithmetic, Assigned, Compound, OutsideLoop, TooManyCells}
 
 -- a number below 65,536 in four bytes
 abbrev pub four : ℕ → List ℕ

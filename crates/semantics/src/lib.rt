@@ -6,6 +6,8 @@
 //
 // Proved: what a new runner answers in the worked cases, from the bytes of small files (`worked`); that a go and a course have one outcome, and
 // that a rule under way between calls has a node that is next to begin (`laws`). Not said here: that an accepted rule is never stuck.
+#![tactic(auto)]
+
 pub mod answer;
 pub mod import;
 pub mod laws;

@@ -10,7 +10,7 @@ use nodes::node::Node;
 use texts::spelling::{is_identifier, is_string_text};
 use wording::text::{Phrase, Piece, Sentence};
 use wording::words::MOST_NODES;
-use wording::{tree, words};
+use wording::{outline, words};
 
 /// The sentence on a fault.
 pub fn sentence<'a>(reader: Reader<'a>, finding: Finding<FileFault>) -> Sentence<'a> {
@@ -41,7 +41,7 @@ fn node_place<'a>(reader: Reader<'a>, i: u32) -> Phrase<'a> {
         Some(node) => words::noun(node.kind),
         None => "of no known kind",
     };
-    let depth = tree::depth(reader.node_body(), i);
+    let depth = outline::depth(reader.node_body(), i);
     Phrase(
         Piece::Number("node ", i as i64, ", "),
         Piece::Words(noun),
@@ -259,7 +259,7 @@ fn against_value(rule: Value) -> &'static str {
 
 fn size<'a>(reader: Reader<'a>, i: u32) -> Phrase<'a> {
     let nodes = reader.node_body();
-    let size = tree::size_of(nodes, i) as i64;
+    let size = outline::size_of(nodes, i) as i64;
     if i == 0 {
         let all = Piece::count(", and node 0 spans all ", reader.node_count(), " nodes");
         return Phrase::two(Piece::Number("the size ", size, ""), all);
@@ -267,11 +267,11 @@ fn size<'a>(reader: Reader<'a>, i: u32) -> Phrase<'a> {
     if size == 0 {
         return Phrase::one(Piece::Words("the size 0, and a node spans itself at least"));
     }
-    let parent = tree::parent(nodes, i);
+    let parent = outline::parent(nodes, i);
     Phrase(
         Piece::Number("the size ", size, ""),
         Piece::Number(", and its parent, node ", parent as i64, ""),
-        Piece::count(", ends before node ", tree::end_of(nodes, parent), ""),
+        Piece::count(", ends before node ", outline::end_of(nodes, parent), ""),
     )
 }
 
@@ -296,7 +296,7 @@ fn children<'a>(reader: Reader<'a>, i: u32) -> Phrase<'a> {
 
 // How many children a node has by the sizes. No more are counted than a rule has nodes, so that sizes of 0 do no harm.
 fn child_count(reader: Reader, i: u32) -> u32 {
-    let end = tree::end_of(reader.node_body(), i);
+    let end = outline::end_of(reader.node_body(), i);
     let mut child = i as usize + 1;
     for count in 0..MOST_NODES {
         let Some(node) = reader.node(child) else {

@@ -2,5 +2,7 @@
 //
 // Nothing is promised of the words but that there are some for every finding and every file: that the finding is right is for
 // the crates that examine a file to say.
+#![tactic(auto)]
+
 pub mod faults;
 pub mod violations;

@@ -6,7 +6,7 @@ use nodes::kind::Kind;
 use nodes::node::Node;
 use wording::text::{Phrase, Piece, Sentence};
 use wording::words::MOST_NODES;
-use wording::{tree, words};
+use wording::{outline, words};
 
 /// The sentence on a violation.
 pub fn sentence<'a>(reader: Reader<'a>, finding: Finding<Violation>) -> Sentence<'a> {
@@ -54,7 +54,7 @@ fn method_around(reader: Reader, i: u32) -> Option<Node> {
     let nodes = reader.node_body();
     let mut innermost = None;
     for j in 0..i {
-        if (i as usize) < tree::end_of(nodes, j) {
+        if (i as usize) < outline::end_of(nodes, j) {
             innermost = method_at(reader, j).or(innermost);
         }
     }
@@ -162,8 +162,8 @@ fn declares(reader: Reader, i: u32, name: u8) -> bool {
 // The node whose scope a declaration stands in: its parent, but of a method's body block the method.
 fn scope_of(reader: Reader, i: u32) -> u32 {
     let nodes = reader.node_body();
-    let parent = tree::parent(nodes, i);
-    let above = tree::parent(nodes, parent);
+    let parent = outline::parent(nodes, i);
+    let above = outline::parent(nodes, parent);
     if method_at(reader, parent).is_none() && method_at(reader, above).is_some() {
         above
     } else {
@@ -185,7 +185,7 @@ fn own_cells(reader: Reader) -> i64 {
     let nodes = reader.node_body();
     let mut cells: i64 = 0;
     for i in 1..MOST_NODES {
-        if tree::parent(nodes, i) == 0 {
+        if outline::parent(nodes, i) == 0 {
             cells = cells.saturating_add(cells_at(reader, i));
         }
     }

@@ -2,6 +2,8 @@
 //
 // Proved, for every rule of which the checks tell the facts of `Checked`: it is at its end or has a next act in every state that it comes
 // to, whatever the book means.
+#![tactic(auto)]
+
 ghost use Rattle.soundness.specs.Sound.{NeverStuck, NeverStuckLater};
 
 /// A checked rule is never stuck on its way from its origin. The call does nothing: its contract is that.

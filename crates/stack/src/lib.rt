@@ -2,6 +2,8 @@
 //
 // Proved of every type of entry: a push puts the entry above those in use, or is refused where no slot is left; a pop gives the
 // topmost back; a read gives the entry at a place. What slots above those in use hold is not part of a stack.
+#![tactic(auto)]
+
 ghost use Rattle.std.specs.Prelude.{◌≡◌, ◌<◌, ◌≤◌, true, length, take, Some, nat_le};
 ghost use Rattle.stack.specs.Stacks.{Pushed, Popped, Read};
 

@@ -1,7 +1,7 @@
 -- Children that fill the slots are arranged in runs, one for each slot.
-use Rattle.std.proofs.Common.{◌≡◌, ℕ, ◌+◌, ◌<◌, ◌≤◌, Bool, true, false, cond, not, ◌&&◌, List, [], ◌∷◌, ◌++◌, length, Some, None, Option, sym, refl, ap, ◌∙◌, arith}
+use Rattle.std.proofs.Common.{◌≡◌, ℕ, Bool, true, false, cond, not, List, [], ◌∷◌, length, Some, None, refl, ap, arith}
 use Rattle.finding.proofs.Bools.{both, not_true}
-use Rattle.nodes.specs.Shapes.{of_class, again, asks, filled, satisfied, fill, every, Fitting, Arranged}
+use Rattle.nodes.specs.Shapes.{of_class, again, asks, filled, satisfied, fill, Fitting, Arranged}
 use Rattle.nodes.specs.declared.shape.Slot.{Slot}
 use Rattle.nodes.specs.declared.shape.Times.{Times}
 use Rattle.nodes.specs.declared.shape.Times.TheVariants as times

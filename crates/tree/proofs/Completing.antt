@@ -2,7 +2,7 @@
 --
 -- A child goes into the first open slot of its class. That is no loss where a slot for many children stands before slots of
 -- other classes only, and one for perhaps a child before slots for perhaps a child only.
-use Rattle.std.proofs.Common.{◌≡◌, ℕ, ◌+◌, ◌<◌, ◌≤◌, Bool, true, false, cond, not, ◌&&◌, List, [], ◌∷◌, ◌++◌, length, Some, None, Option, sym, refl, ap, ◌∙◌, arith}
+use Rattle.std.proofs.Common.{◌≡◌, ℕ, ◌≤◌, Bool, true, false, List, [], ◌∷◌, ◌++◌, length, Some, sym, refl, ap, ◌∙◌, arith}
 use Rattle.std.proofs.lemmas.Bool.Decides.{nat_tests}
 use Rattle.finding.proofs.Bools.{both}
 use Rattle.nodes.specs.Shapes.{of_class, again, asks, filled, satisfied, fill, every, Fitting, Arranged, shape}

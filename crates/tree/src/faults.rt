@@ -100,8 +100,8 @@ fn size_place(reader: &Reader, n: usize) -> Option<u32>
 }
 
 fn depth_place(reader: &Reader, n: usize) -> Option<u32>
-    requires n_nonzero { (0 < n) × ((n ≤ 1024) × (n ≡ count (node_body (file_of reader.now)))) }
-    requires reader_value { place_of NodeSize (file_of reader.now) ≡ None }
+    requires count { (0 < n) × ((n ≤ 1024) × (n ≡ count (node_body (file_of reader.now)))) }
+    requires sized { place_of NodeSize (file_of reader.now) ≡ None }
     ensures { result ≡ place_of NodeDepth (file_of reader.now) }
 {
     depth_fault(reader.node_body(), n)

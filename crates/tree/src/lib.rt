@@ -1,4 +1,6 @@
 // The nodes of a file: their fields, and the tree that their sizes make.
+#![tactic(auto)]
+
 mod children;
 pub mod faults;
 pub mod laws;

@@ -75,8 +75,8 @@ pub(crate) fn size_fault(nodes: &[u8], n: usize) -> Option<u32>
 
 /// The lowest of n nodes that has depth 65, where no size is at fault.
 pub(crate) fn depth_fault(nodes: &[u8], n: usize) -> Option<u32>
-    requires n_nonzero { (0 < n) × (n ≤ 1024) }
-    requires n_value { lowest (bad_size (end_of nodes.now) n) n ≡ None }
+    requires count { (0 < n) × (n ≤ 1024) }
+    requires sized { lowest (bad_size (end_of nodes.now) n) n ≡ None }
     ensures { result ≡ lowest (too_deep (end_of nodes.now)) n }
 {
     let mut stack: [u16; DEEPEST] = [0; DEEPEST];

@@ -8,4 +8,4 @@ returns-in-Some c = sym c.study.ensures.first ∙ c.in-Some.is
 
 pub returns : goal.returns
 returns c =
-    accepted c.args.resolved _ _ (file_of c.args.resolved.reader) c.requires c.study.ensures.types c.find-bodies-bodies.ensures (sym c.study.ensures.first ∙ c.in-default.is)
+    accepted c.args.resolved _ _ (file_of c.args.resolved.reader) c.requires c.study.ensures.types c.find_bodies-bodies.ensures (sym c.study.ensures.first ∙ c.in_default.is)

@@ -1,4 +1,4 @@
-use Rattle.std.proofs.Common.{◌≡◌, ◌≤◌, List, length, sym, refl, ap, subst, arith}
+use Rattle.std.proofs.Common.{List, length, sym, refl, subst}
 use Rattle.layout.specs.Readers.{file_of}
 use Rattle.nodes.specs.declared.node.Node.{Node}
 use Rattle.node_rules.specs.Tables.{nodes_of}
@@ -6,23 +6,23 @@ use Rattle.names.specs.Walk.{Nested, Known}
 use Rattle.names.proofs.Files.{nested_file, decoded_file, decoded_front, counted_file}
 use Rattle.names.proofs.tell_names.Goals as goal
 
-pub find-contexts-contexts-requires : goal.find-contexts-contexts-requires
-find-contexts-contexts-requires c =
+pub find_contexts-contexts-requires : goal.find_contexts-contexts-requires
+find_contexts-contexts-requires c =
     let file = file_of c.args.reader in
-    subst Nested (sym (decoded_front file _ c.node-count-count.result _ refl c.node-count-count.ensures c.decode-nodes-nodes.ensures.nodes)) (nested_file file c.requires.faultless)
+    subst Nested (sym (decoded_front file _ c.node_count-count.result _ refl c.node_count-count.ensures c.decode_nodes-nodes.ensures.nodes)) (nested_file file c.requires.faultless)
 
 pub returns : goal.returns
 returns c =
     let file = file_of c.args.reader in
-    let n = c.node-count-count.result in
-    let f = decoded_front file _ n _ refl c.node-count-count.ensures c.decode-nodes-nodes.ensures.nodes in
-    let q = counted_file file _ n c.decode-nodes-nodes.result refl c.node-count-count.ensures c.decode-nodes-nodes.ensures.nodes c.requires.faultless in
+    let n = c.node_count-count.result in
+    let f = decoded_front file _ n _ refl c.node_count-count.ensures c.decode_nodes-nodes.ensures.nodes in
+    let q = counted_file file _ n c.decode_nodes-nodes.result refl c.node_count-count.ensures c.decode_nodes-nodes.ensures.nodes c.requires.faultless in
     record {
       faultless = c.requires.faultless;
       over = refl;
       counted = q;
       nested = nested_file file c.requires.faultless;
-      room = (c.decode-nodes-nodes.ensures.long, c.find-contexts-contexts.ensures.long);
-      nodes = decoded_file file _ n _ refl c.node-count-count.ensures c.decode-nodes-nodes.ensures.nodes;
-      known = subst (λ m. Known (nodes_of file) c.find-contexts-contexts.result m) (sym q) (subst (λ (ns : List Node). Known ns c.find-contexts-contexts.result (length ns)) f c.find-contexts-contexts.ensures.known);
+      room = (c.decode_nodes-nodes.ensures.long, c.find_contexts-contexts.ensures.long);
+      nodes = decoded_file file _ n _ refl c.node_count-count.ensures c.decode_nodes-nodes.ensures.nodes;
+      known = subst (λ m. Known (nodes_of file) c.find_contexts-contexts.result m) (sym q) (subst (λ (ns : List Node). Known ns c.find_contexts-contexts.result (length ns)) f c.find_contexts-contexts.ensures.known);
     }

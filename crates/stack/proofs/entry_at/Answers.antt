@@ -1,9 +1,9 @@
-use Rattle.std.proofs.Common.{◌≡◌, ◌<◌, length, sym, ◌∙◌, arith}
+use Rattle.std.proofs.Common.{◌<◌, length, sym, ◌∙◌, arith}
 use Rattle.std.proofs.lemmas.List.{get_or-take, get_or_read, length-take}
 use Rattle.stack.proofs.entry_at.Goals as goal
 
-pub offset-bounds-slots-place : goal.offset-bounds-slots-place
-offset-bounds-slots-place g c = let l = length-take c.args.used c.args.slots.now in let h = c.requires in omega arith
+pub offset_bounds-slots-place : goal.offset_bounds-slots-place
+offset_bounds-slots-place g c = let l = length-take c.args.used c.args.slots.now in let h = c.requires in omega arith
 
 pub bounds-slots-place : goal.bounds-slots-place
 bounds-slots-place g c = let l = length-take c.args.used c.args.slots.now in let h = c.requires in omega arith

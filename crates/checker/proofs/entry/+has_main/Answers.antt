@@ -11,19 +11,19 @@ returns-then-j-stop t c =
     let ns = c.args.nodes.now in
     sym (ap (any (is_main ns (names (file_of c.args.reader.now)))) (kin_none ns c.args.j c.args.stop c.if-j-stop.true))
 
-pub returns-then-is-main : goal.returns-then-is-main
-returns-then-is-main t c =
+pub returns-then-is_main : goal.returns-then-is_main
+returns-then-is_main t c =
     let ns = c.args.nodes.now in
     let test = is_main ns (names (file_of c.args.reader.now)) in
     let m = kin_more ns c.args.j c.args.stop c.requires.0 c.requires.1 c.if-j-stop.false in
-    c.if-is-main.true
-    ∙ sym (ap (any test) m ∙ ap (λ b. b || any test (kin ns (end ns c.args.j) c.args.stop)) (sym c.is-main.ensures ∙ c.if-is-main.true))
+    c.if-is_main.true
+    ∙ sym (ap (any test) m ∙ ap (λ b. b || any test (kin ns (end ns c.args.j) c.args.stop)) (sym c.is_main.ensures ∙ c.if-is_main.true))
 
-pub returns-else-is-main : goal.returns-else-is-main
-returns-else-is-main t c =
+pub returns-else-is_main : goal.returns-else-is_main
+returns-else-is_main t c =
     let ns = c.args.nodes.now in
     let test = is_main ns (names (file_of c.args.reader.now)) in
     let m = kin_more ns c.args.j c.args.stop c.requires.0 c.requires.1 c.if-j-stop.false in
-    c.has-main.ensures
-    ∙ ap (λ x. any test (kin ns x c.args.stop)) c.end-of.ensures.value
-    ∙ sym (ap (any test) m ∙ ap (λ b. b || any test (kin ns (end ns c.args.j) c.args.stop)) (sym c.is-main.ensures ∙ c.if-is-main.false))
+    c.has_main.ensures
+    ∙ ap (λ x. any test (kin ns x c.args.stop)) c.end_of.ensures.value
+    ∙ sym (ap (any test) m ∙ ap (λ b. b || any test (kin ns (end ns c.args.j) c.args.stop)) (sym c.is_main.ensures ∙ c.if-is_main.false))

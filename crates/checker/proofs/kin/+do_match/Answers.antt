@@ -34,25 +34,25 @@ pub returns-then-j-stop : goal.returns-then-j-stop
 returns-then-j-stop t c =
     let ns = c.args.nodes.now in
     let τ = told c.args.types.now in
-    ap not c.is-kind.ensures
+    ap not c.is_kind.ensures
     ∙ sym (ap (λ ps. matches ns τ ps (kin ns c.args.j c.args.stop)) (kin_more ns c.args.p c.args.last c.requires.0 c.requires.1.0 c.if-p-last.false) ∙ ap (matches ns τ (c.args.p ∷ kin ns (end ns c.args.p) c.args.last)) (kin_none ns c.args.j c.args.stop c.if-j-stop.true))
 
-pub returns-then-does-take : goal.returns-then-does-take
-returns-then-does-take t c =
+pub returns-then-does_take : goal.returns-then-does_take
+returns-then-does_take t c =
     let ns = c.args.nodes.now in
     let τ = told c.args.types.now in
     let m = matches_more ns c.requires.0 τ c.args.j c.args.stop c.requires.1.1.0 c.args.p c.args.last c.requires.1.0 c.if-p-last.false c.if-j-stop.false in
-    let d : takes (node ns c.args.p) (τ c.args.j) ≡ true = sym c.does-take.ensures ∙ c.if-does-take.true in
-    c.do-match.ensures
-    ∙ ap (λ x. matches ns τ (kin ns x c.args.last) (kin ns c.end-of-then-does-take.result c.args.stop)) c.end-of.ensures.value
-    ∙ ap (λ x. matches ns τ (kin ns (end ns c.args.p) c.args.last) (kin ns x c.args.stop)) c.end-of-then-does-take.ensures.value
+    let d : takes (node ns c.args.p) (τ c.args.j) ≡ true = sym c.does_take.ensures ∙ c.if-does_take.true in
+    c.do_match.ensures
+    ∙ ap (λ x. matches ns τ (kin ns x c.args.last) (kin ns c.end_of-then-does_take.result c.args.stop)) c.end_of.ensures.value
+    ∙ ap (λ x. matches ns τ (kin ns (end ns c.args.p) c.args.last) (kin ns x c.args.stop)) c.end_of-then-does_take.ensures.value
     ∙ sym (m ∙ ap (λ b. b && matches ns τ (kin ns (end ns c.args.p) c.args.last) (kin ns (end ns c.args.j) c.args.stop)) d)
 
-pub returns-else-does-take : goal.returns-else-does-take
-returns-else-does-take t c =
+pub returns-else-does_take : goal.returns-else-does_take
+returns-else-does_take t c =
     let ns = c.args.nodes.now in
     let τ = told c.args.types.now in
     let m = matches_more ns c.requires.0 τ c.args.j c.args.stop c.requires.1.1.0 c.args.p c.args.last c.requires.1.0 c.if-p-last.false c.if-j-stop.false in
-    let d : takes (node ns c.args.p) (τ c.args.j) ≡ false = sym c.does-take.ensures ∙ c.if-does-take.false in
-    c.if-does-take.false
+    let d : takes (node ns c.args.p) (τ c.args.j) ≡ false = sym c.does_take.ensures ∙ c.if-does_take.false in
+    c.if-does_take.false
     ∙ sym (m ∙ ap (λ b. b && matches ns τ (kin ns (end ns c.args.p) c.args.last) (kin ns (end ns c.args.j) c.args.stop)) d)

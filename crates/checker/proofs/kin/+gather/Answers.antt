@@ -15,13 +15,13 @@ returns t c =
     let τ = told c.args.types.now in
     let j = c.args.j in
     let m = kin_more ns j c.args.stop c.requires.0 c.requires.1.0 c.if-j-stop.false in
-    let past = c.end-of.ensures.past in
+    let past = c.end_of.ensures.past in
     let b = c.gather-later.ensures.bound in
-    let n = ap (λ h. h.count) c.put-before.ensures in
+    let n = ap (λ h. h.count) c.put_before.ensures in
     record {
       value =
-          c.put-before.ensures
-          ∙ ap (with_child (node ns j).kind (τ j)) (c.gather-later.ensures.value ∙ ap (λ x. held ns τ (kin ns x c.args.stop)) c.end-of.ensures.value)
+          c.put_before.ensures
+          ∙ ap (with_child (node ns j).kind (τ j)) (c.gather-later.ensures.value ∙ ap (λ x. held ns τ (kin ns x c.args.stop)) c.end_of.ensures.value)
           ∙ sym (ap (held ns τ) m);
       bound = omega arith;
     }

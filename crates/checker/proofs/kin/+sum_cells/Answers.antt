@@ -14,13 +14,13 @@ pub returns : goal.returns
 returns t c =
     let ns = c.args.nodes.now in
     let m = kin_more ns c.args.j c.args.stop c.requires.0 c.requires.1 c.if-j-stop.false in
-    let past = c.end-of.ensures.past in
-    let b = c.sum-cells-rest.ensures.bound in
+    let past = c.end_of.ensures.past in
+    let b = c.sum_cells-rest.ensures.bound in
     record {
       value =
-          ap (λ x. x + c.sum-cells-rest.result) c.cells-of.ensures
-          ∙ ap (λ x. cells_of (node ns c.args.j) + x) c.sum-cells-rest.ensures.value
-          ∙ ap (λ x. cells_of (node ns c.args.j) + cells_all ns (kin ns x c.args.stop)) c.end-of.ensures.value
+          ap (λ x. x + c.sum_cells-rest.result) c.cells_of.ensures
+          ∙ ap (λ x. cells_of (node ns c.args.j) + x) c.sum_cells-rest.ensures.value
+          ∙ ap (λ x. cells_of (node ns c.args.j) + cells_all ns (kin ns x c.args.stop)) c.end_of.ensures.value
           ∙ sym (ap (cells_all ns) m);
       bound = omega arith;
     }

@@ -13,16 +13,16 @@ returns c =
     let ns = c.args.nodes.now in
     let i = c.args.i in
     let τ = told c.args.types.now in
-    let p = c.context-at-context.ensures in
-    let q = c.context-at-parent.ensures in
-    let m : c.declared-at.result ≡ declared ns (meant ns i) = c.declared-at.ensures ∙ ap (declared ns) p.means in
+    let p = c.context_at-context.ensures in
+    let q = c.context_at-parent.ensures in
+    let m : c.declared_at.result ≡ declared ns (meant ns i) = c.declared_at.ensures ∙ ap (declared ns) p.means in
     let h : c.gather.result ≡ held ns τ (parts ns i) =
-    c.gather.ensures.value ∙ ap (λ x. held ns τ (kin ns (i + 1) x)) c.end-of.ensures.value ∙ ap (held ns τ) (kin_parts ns i) in
-    let a : c.is-matching.result ≡ matching ns τ (parts ns i) (meant ns i) = c.is-matching.ensures ∙ ap (matching ns τ (parts ns i)) p.means in
-    let k : (node ns c.context-at-context.result.parent).kind ≡ (node ns (above ns i)).kind = ap (λ x. (node ns x).kind) p.parent in
-    let d : c.declared-at-2.result ≡ declared ns (meant ns (above ns i)) =
-    c.declared-at-2.ensures ∙ ap (declared ns) q.means ∙ ap (λ x. declared ns (meant ns x)) p.parent in
-    let t : c.type-of-tag.result ≡ tagged (node ns (method_of ns i)).tag = c.type-of-tag.ensures ∙ ap (λ x. tagged (node ns x).tag) p.method in
-    let r = c.is-repeated.ensures in
+    c.gather.ensures.value ∙ ap (λ x. held ns τ (kin ns (i + 1) x)) c.end_of.ensures.value ∙ ap (held ns τ) (kin_parts ns i) in
+    let a : c.is_matching.result ≡ matching ns τ (parts ns i) (meant ns i) = c.is_matching.ensures ∙ ap (matching ns τ (parts ns i)) p.means in
+    let k : (node ns c.context_at-context.result.parent).kind ≡ (node ns (above ns i)).kind = ap (λ x. (node ns x).kind) p.parent in
+    let d : c.declared_at-2.result ≡ declared ns (meant ns (above ns i)) =
+    c.declared_at-2.ensures ∙ ap (declared ns) q.means ∙ ap (λ x. declared ns (meant ns x)) p.parent in
+    let t : c.type_of_tag.result ≡ tagged (node ns (method_of ns i)).tag = c.type_of_tag.ensures ∙ ap (λ x. tagged (node ns x).tag) p.method in
+    let r = c.is_repeated.ensures in
     let l = p.looped in
     cc

@@ -8,9 +8,9 @@ pub returns : goal.returns
 unfolding first_violation field_cells
 returns c =
     let ns = c.args.nodes.now in
-    let cells : c.sum-cells-cells.result ≡ field_cells ns =
-    c.sum-cells-cells.ensures.value ∙ ap (λ x. cells_all ns (kin ns 1 x)) c.end-of.ensures.value ∙ ap (cells_all ns) (kin_parts ns 0) in
+    let cells : c.sum_cells-cells.result ≡ field_cells ns =
+    c.sum_cells-cells.ensures.value ∙ ap (λ x. cells_all ns (kin ns 1 x)) c.end_of.ensures.value ∙ ap (cells_all ns) (kin_parts ns 0) in
     record {
-      first = c.or-cells.ensures ∙ ap (λ x. or_cells x c.first-broken-found.result) cells ∙ ap (or_cells (field_cells ns)) c.first-broken-found.ensures.first;
-      types = c.first-broken-found.ensures.types;
+      first = c.or_cells.ensures ∙ ap (λ x. or_cells x c.first_broken-found.result) cells ∙ ap (or_cells (field_cells ns)) c.first_broken-found.ensures.first;
+      types = c.first_broken-found.ensures.types;
     }

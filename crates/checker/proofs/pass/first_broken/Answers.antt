@@ -19,7 +19,7 @@ loop-i-preserved c =
     let l : i < n = omega arith in
     let known : TypedFrom t c.loop-i.types (i + 1) = subst (λ m. TypedFrom t c.loop-i.types m) q c.loop-i.invariant.1 in
     let first : c.loop-i.first ≡ first_from t (i + 1) (n - (i + 1)) = c.loop-i.invariant.0 ∙ ap (λ m. first_from t m (n - m)) q in (
-      c.earlier-first.ensures ∙ judged_first t c.requires.0.spans c.loop-i.types i l known c.facts-at-facts.result c.facts-at-facts.ensures c.first-broken-broken.result c.first-broken-broken.ensures c.loop-i.first first,
-      judged_types t c.requires.0.spans c.loop-i.types i l known c.facts-at-facts.result c.facts-at-facts.ensures c.first-broken-broken.result c.first-broken-broken.ensures c.type-unless.result c.type-unless.ensures (omega arith),
+      c.earlier-first.ensures ∙ judged_first t c.requires.0.spans c.loop-i.types i l known c.facts_at-facts.result c.facts_at-facts.ensures c.first_broken-broken.result c.first_broken-broken.ensures c.loop-i.first first,
+      judged_types t c.requires.0.spans c.loop-i.types i l known c.facts_at-facts.result c.facts_at-facts.ensures c.first_broken-broken.result c.first_broken-broken.ensures c.type_unless.result c.type_unless.ensures (omega arith),
       omega arith,
     )

@@ -11,9 +11,9 @@ returns-in-Some c =
     let τ = told c.args.types.now in
     let d = c.in-Some.d in
     let i = c.args.i in
-    c.do-match.ensures
-    ∙ ap (λ x. matches ns τ (kin ns (d + 1) x) (kin ns (i + 1) c.end-of-in-Some.result)) c.end-of.ensures.value
-    ∙ ap (λ x. matches ns τ (kin ns (d + 1) (end ns d)) (kin ns (i + 1) x)) c.end-of-in-Some.ensures.value
+    c.do_match.ensures
+    ∙ ap (λ x. matches ns τ (kin ns (d + 1) x) (kin ns (i + 1) c.end_of-in-Some.result)) c.end_of.ensures.value
+    ∙ ap (λ x. matches ns τ (kin ns (d + 1) (end ns d)) (kin ns (i + 1) x)) c.end_of-in-Some.ensures.value
     ∙ ap (λ x. matches ns τ x (kin ns (i + 1) (end ns i))) (kin_parts ns d)
     ∙ ap (matches ns τ (parts ns d)) (kin_parts ns i)
     ∙ ap (matching ns τ (parts ns i)) (sym c.in-Some.is)

@@ -7,9 +7,9 @@ unfolding repeated
 returns-in-Some c =
     let ns = c.args.nodes.now in
     let i = c.args.i in
-    let p = c.context-at-context.ensures in
-    let q = c.context-at.ensures in
-    ap (λ x. eqb x c.context-at-context.result.scope) q.scope
+    let p = c.context_at-context.ensures in
+    let q = c.context_at.ensures in
+    ap (λ x. eqb x c.context_at-context.result.scope) q.scope
     ∙ ap (λ x. eqb (scope ns c.in-Some.d) x) p.scope
     ∙ ap (of_scope ns (scope ns i)) (sym c.in-Some.is ∙ p.means)
 
@@ -17,5 +17,5 @@ pub returns-in-None : goal.returns-in-None
 unfolding repeated
 returns-in-None c =
     let ns = c.args.nodes.now in
-    let p = c.context-at-context.ensures in
+    let p = c.context_at-context.ensures in
     ap (of_scope ns (scope ns c.args.i)) (sym c.in-None.is ∙ p.means)

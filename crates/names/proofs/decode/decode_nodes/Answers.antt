@@ -1,4 +1,4 @@
-use Rattle.std.proofs.Common.{◌≡◌, ℕ, suc, ◌+◌, ◌<◌, List, [], ◌∷◌, ◌++◌, length, take, unwrap_or, sym, refl, ap, ◌∙◌, add-one, arith}
+use Rattle.std.proofs.Common.{◌≡◌, ℕ, ◌+◌, ◌<◌, [], ◌∷◌, ◌++◌, length, take, unwrap_or, sym, ap, ◌∙◌, add-one, arith}
 use Rattle.std.proofs.lemmas.List.{take_more_set, length-set}
 use Rattle.layout.specs.Head.{node_body}
 use Rattle.layout.specs.Readers.{file_of}
@@ -16,11 +16,11 @@ loop-i-preserved c =
     let i = c.loop-i.i in
     let long = c.loop-i.invariant.1 in
     let few = c.requires in
-    let n = c.node-count-i-end.ensures in
+    let n = c.node_count-i-end.ensures in
     let h : i < length c.loop-i.nodes = omega arith in
-    let v : c.unwrap-or.result ≡ f i = c.unwrap-or.ensures ∙ ap (λ o. unwrap_or o blank) c.node.ensures in (
-      take_more_set c.loop-i.nodes i c.unwrap-or.result h ∙ ap (λ x. take i c.loop-i.nodes ++ x ∷ []) v ∙ ap (λ xs. xs ++ f i ∷ []) c.loop-i.invariant.0 ∙ sym (tabulate_more f i),
-      length-set c.loop-i.nodes i c.unwrap-or.result ∙ long,
+    let v : c.unwrap_or.result ≡ f i = c.unwrap_or.ensures ∙ ap (λ o. unwrap_or o blank) c.node.ensures in (
+      take_more_set c.loop-i.nodes i c.unwrap_or.result h ∙ ap (λ x. take i c.loop-i.nodes ++ x ∷ []) v ∙ ap (λ xs. xs ++ f i ∷ []) c.loop-i.invariant.0 ∙ sym (tabulate_more f i),
+      length-set c.loop-i.nodes i c.unwrap_or.result ∙ long,
     )
 
 pub returns : goal.returns
@@ -29,6 +29,6 @@ returns c =
     let f : ℕ → Node = λ k. unwrap_or (node_at (node_body (file_of c.args.reader.now)) k) blank in
     let k = c.loop-i.auto.i-end in
     let l = c.loop-i-test.false in
-    let n = c.node-count-i-end.ensures in
+    let n = c.node_count-i-end.ensures in
     let q : count (node_body (file_of c.args.reader.now)) ≡ c.loop-i.i = omega arith in
     record { nodes = ap (λ m. take m c.loop-i.nodes) q ∙ c.loop-i.invariant.0 ∙ ap (tabulate f) (sym q); long = c.loop-i.invariant.1 }

@@ -1,13 +1,13 @@
-use Rattle.std.proofs.Common.{◌≡◌, ◌+◌, ◌*◌, ◌<◌, ◌≤◌, cond, not, ◌||◌, eqb, length, get_or, take, drop, sym, refl, ap, ◌∙◌, arith}
+use Rattle.std.proofs.Common.{◌≡◌, ◌+◌, cond, not, ◌||◌, eqb, take, drop, sym, ap, ◌∙◌, arith}
 use Rattle.std.proofs.lemmas.List.{at_drop_more, at_drop_all, length-take}
 use Rattle.node_rules.specs.Scopes.{cells_in}
 use Rattle.names.proofs.lookup.cells_in_force.Goals as goal
 
-pub overflow-add-cells : goal.overflow-add-cells
-overflow-add-cells c = let l = c.in-Some.ensures.0 in omega (arith, length-take c.args.used c.args.bindings.now, c.loop-binding.invariant.1)
+pub overflow_add-cells : goal.overflow_add-cells
+overflow_add-cells c = let l = c.in-Some.ensures.0 in omega (arith, length-take c.args.used c.args.bindings.now, c.loop-binding.invariant.1)
 
-pub overflow-add-k : goal.overflow-add-k
-overflow-add-k c = let l = c.in-Some.ensures.0 in omega (arith, length-take c.args.used c.args.bindings.now)
+pub overflow_add-k : goal.overflow_add-k
+overflow_add-k c = let l = c.in-Some.ensures.0 in omega (arith, length-take c.args.used c.args.bindings.now)
 
 pub loop-binding-preserved : goal.loop-binding-preserved
 loop-binding-preserved c =
@@ -23,5 +23,5 @@ loop-binding-preserved c =
 pub returns : goal.returns
 returns c =
     let xs = take c.args.used c.args.bindings.now in
-    let m = at_drop_all (cells_in c.args.all) xs c.loop-binding.k c.in-default.ensures in
+    let m = at_drop_all (cells_in c.args.all) xs c.loop-binding.k c.in_default.ensures in
     omega (arith, m, c.loop-binding.invariant.0)

@@ -1,11 +1,11 @@
-use Rattle.std.proofs.Common.{◌≡◌, ◌+◌, ◌<◌, cond, eqb, length, get_or, take, drop, sym, refl, ap, ◌∙◌, arith}
+use Rattle.std.proofs.Common.{◌≡◌, ◌+◌, cond, eqb, take, drop, sym, ap, ◌∙◌, arith}
 use Rattle.std.proofs.lemmas.List.{at_drop_more, at_drop_all, length-take}
 use Rattle.node_rules.specs.Scopes.{chosen, inner, node_of}
 use Rattle.names.proofs.lookup.meaning.Goals as goal
 use Rattle.names.proofs.lookup.meaning.Goals.{then-binding-name, else-binding-name}
 
-pub overflow-add-k : goal.overflow-add-k
-overflow-add-k c =
+pub overflow_add-k : goal.overflow_add-k
+overflow_add-k c =
     let l = c.in-Some.ensures.0 in omega (arith, length-take c.args.used c.args.bindings.now)
 
 -- the best so far, one binding on
@@ -26,11 +26,11 @@ loop-binding-preserved c =
 pub returns-in-Some-best : goal.returns-in-Some-best
 returns-in-Some-best c =
     let xs = take c.args.used c.args.bindings.now in
-    let m = at_drop_all (chosen c.args.name c.loop-binding.best) xs c.loop-binding.k c.in-default.ensures in
+    let m = at_drop_all (chosen c.args.name c.loop-binding.best) xs c.loop-binding.k c.in_default.ensures in
     ap node_of (sym c.in-Some-best.is ∙ sym m ∙ c.loop-binding.invariant)
 
 pub returns-in-None : goal.returns-in-None
 returns-in-None c =
     let xs = take c.args.used c.args.bindings.now in
-    let m = at_drop_all (chosen c.args.name c.loop-binding.best) xs c.loop-binding.k c.in-default.ensures in
+    let m = at_drop_all (chosen c.args.name c.loop-binding.best) xs c.loop-binding.k c.in_default.ensures in
     ap node_of (sym c.in-None.is ∙ sym m ∙ c.loop-binding.invariant)

@@ -1,10 +1,8 @@
-use Rattle.std.proofs.Common.{◌≡◌, ◌<◌, ◌≤◌, true, false, ◌||◌, eqb, List, length, sym, refl, ap, ◌∙◌, arith, rules}
-use Rattle.std.proofs.lemmas.Bool.Decides.{nat_tests}
-use Rattle.nodes.specs.Kinds.{between}
-use Rattle.node_rules.specs.Tables.{node, kind_at, end}
+use Rattle.std.proofs.Common.{◌≡◌, ◌<◌, ◌≤◌, false, ◌||◌, sym, refl, ◌∙◌, arith}
+use Rattle.node_rules.specs.Tables.{kind_at, end}
 use Rattle.node_rules.specs.Scopes.{declares, uses}
 use Rattle.names.proofs.Contexts.{standing, means_told, no_place, statement_named, expression_named, expression_plain}
-use Rattle.names.proofs.Walking.{entered_plain, entered_own, pushed_own, walked_plain, walked_own, going_first, going_next, going_done}
+use Rattle.names.proofs.Walking.{entered_plain, entered_own, pushed_own, walked_plain, walked_own, going_next, going_done}
 use Rattle.names.proofs.walk.+block_children_declaration_expression_statement_visit.Goals as goal
 
 pub block-enter-requires : goal.block-enter-requires
@@ -41,11 +39,11 @@ statement-enter-requires t c =
     let r = c.requires.ready in
     let l : kind_at ns i ≤ 16 = c.requires.kind.1 in
     let g = c.requires.kind.0 in
-    let n : c.is-kind-named.result ≡ (declares ns i || uses ns i) = c.is-kind-named.ensures ∙ sym (statement_named (kind_at ns i) g l) in
+    let n : c.is_kind-named.result ≡ (declares ns i || uses ns i) = c.is_kind-named.ensures ∙ sym (statement_named (kind_at ns i) g l) in
     record {
       node = standing _ _ _ _ i c.args.parent r c.requires.child;
       known = (r.known, r.room.1);
-      told = (c.meaning-if-means.ensures ∙ means_told ns i _ c.is-kind-named.result r.names n, no_place ns i g);
+      told = (c.meaning_if-means.ensures ∙ means_told ns i _ c.is_kind-named.result r.names n, no_place ns i g);
     }
 
 pub statement-children-requires : goal.statement-children-requires
@@ -62,11 +60,11 @@ expression-enter-requires t c =
     let ns = c.args.nodes.now in
     let i = c.args.i in
     let r = c.requires.ready in
-    let n : c.is-named-expression-named.result ≡ (declares ns i || uses ns i) = c.is-named-expression-named.ensures ∙ sym (expression_named (kind_at ns i) c.requires.kind) in
+    let n : c.is_named_expression-named.result ≡ (declares ns i || uses ns i) = c.is_named_expression-named.ensures ∙ sym (expression_named (kind_at ns i) c.requires.kind) in
     record {
       node = standing _ _ _ _ i c.args.parent r c.requires.child;
       known = (r.known, r.room.1);
-      told = (c.meaning-if-means.ensures ∙ means_told ns i _ c.is-named-expression-named.result r.names n, no_place ns i (expression_plain (kind_at ns i) c.requires.kind));
+      told = (c.meaning_if-means.ensures ∙ means_told ns i _ c.is_named_expression-named.result r.names n, no_place ns i (expression_plain (kind_at ns i) c.requires.kind));
     }
 
 pub expression-children-requires : goal.expression-children-requires
@@ -94,12 +92,12 @@ declaration-returns t c =
 pub children-loop-j-preserved : goal.children-loop-j-preserved
 children-loop-j-preserved t c =
     let ns = c.args.nodes.now in
-    let h : c.loop-j.j < end ns c.args.i = let a = c.end-of-end.ensures in let b = c.loop-j-test.true in omega arith in
-    (going_next ns c.args.i _ _ c.loop-j.j _ _ _ c.loop-j.invariant.0 c.requires.inside _ _ _ _ h c.end-of-j.ensures c.visit.ensures, refl)
+    let h : c.loop-j.j < end ns c.args.i = let a = c.end_of-end.ensures in let b = c.loop-j-test.true in omega arith in
+    (going_next ns c.args.i _ _ c.loop-j.j _ _ _ c.loop-j.invariant.0 c.requires.inside _ _ _ _ h c.end_of-j.ensures c.visit.ensures, refl)
 
 pub children-returns : goal.children-returns
 children-returns t c =
     let ns = c.args.nodes.now in
     let d = c.drop-scope.ensures in
     let m = c.loop-j.invariant.1 in
-    going_done ns c.args.i _ _ c.loop-j.j _ _ _ c.loop-j.invariant.0 c.requires.inside _ (let a = c.end-of-end.ensures in let b = c.loop-j-test.false in omega arith) (cc)
+    going_done ns c.args.i _ _ c.loop-j.j _ _ _ c.loop-j.invariant.0 c.requires.inside _ (let a = c.end_of-end.ensures in let b = c.loop-j-test.false in omega arith) (cc)

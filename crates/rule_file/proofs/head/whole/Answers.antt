@@ -1,4 +1,4 @@
-use Rattle.std.proofs.Common.{refl, rules}
+use Rattle.std.proofs.Common.{rules}
 use Rattle.finding.specs.Search.{lowest}
 use Rattle.rule_file.proofs.head.whole.Goals as goal
 

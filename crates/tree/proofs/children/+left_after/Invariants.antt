@@ -1,5 +1,5 @@
 use Rattle.std.proofs.Common.{length}
 use Rattle.tree.proofs.children.+left_after.Given as goal
 
-abbrev pub decreases-left-after : goal.decreases-left-after
-decreases-left-after l = length l.slots.now
+abbrev pub decreases-left_after : goal.decreases-left_after
+decreases-left_after l = length l.slots.now

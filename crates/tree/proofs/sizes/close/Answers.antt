@@ -2,8 +2,8 @@ use Rattle.std.proofs.Common.{arith}
 use Rattle.tree.proofs.Nesting.{closing_pop, closing_done}
 use Rattle.tree.proofs.sizes.close.Goals as goal
 
-pub overflow-sub-top : goal.overflow-sub-top
-overflow-sub-top c =
+pub overflow_sub-top : goal.overflow_sub-top
+overflow_sub-top c =
     let p = closing_pop _ _ _ _ _ c.requires.whole c.requires.node c.requires.sound c.loop-top.invariant.1 (omega arith) in
     omega (arith, p.0)
 

@@ -8,26 +8,26 @@ use Rattle.tree.proofs.Nesting.{no_fault, spanned, stacked_first, pushed, depth_
 use Rattle.tree.proofs.sizes.depth_fault.Goals as goal
 use Rattle.tree.proofs.sizes.depth_fault.Goals.{After-close-last}
 
-sound : {e : ℕ → ℕ} {n : ℕ} → (0 < n × n ≤ 1024) × (lowest (bad_size e n) n ≡ None) → Spanned e n
-sound p = spanned _ _ p.0.0 (no_fault _ _ p.1)
+sound : {e : ℕ → ℕ} {n : ℕ} → 0 < n × n ≤ 1024 → lowest (bad_size e n) n ≡ None → Spanned e n
+sound few sized = spanned _ _ few.0 (no_fault _ _ sized)
 
 -- the depth of node i, by the stack
 lies : (c : After-close-last) → depth (end_of c.args.nodes.now) c.loop-i.i ≡ c.close-last.result + 2
 lies c =
-    depth_held (end_of c.args.nodes.now) c.loop-i.i c.loop-i.stack c.close-last.result ((sound c.requires).sized c.loop-i.i (omega arith)) c.close-last.ensures.exact
+    depth_held (end_of c.args.nodes.now) c.loop-i.i c.loop-i.stack c.close-last.result ((sound c.requires.count c.requires.sized).sized c.loop-i.i (omega arith)) c.close-last.ensures.exact
 
 pub loop-i-init : goal.loop-i-init
 loop-i-init c =
-    let w = sound c.requires in
+    let w = sound c.requires.count c.requires.sized in
     (omega arith, refl, (λ k l. let q : k ≡ 0 = omega arith in rw q (depth_root _ (omega (arith, w.whole)))), stacked_first _ _ refl)
 
 pub close-last-requires : goal.close-last-requires
 close-last-requires c =
-    let s = no_fault (end_of c.args.nodes.now) c.args.n c.requires.1 in
+    let s = no_fault (end_of c.args.nodes.now) c.args.n c.requires.sized in
     record {
       size = omega arith;
       room = omega arith;
-      whole = (sound c.requires).whole;
+      whole = (sound c.requires.count c.requires.sized).whole;
       later = omega arith;
       node = omega arith;
       sound = λ k l. s k (omega arith);

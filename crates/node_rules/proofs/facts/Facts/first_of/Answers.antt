@@ -1,6 +1,6 @@
-use Rattle.std.proofs.Common.{◌≡◌, ◌+◌, cond, get_or, drop, Some, None, sym, refl, ap, ◌∙◌, arith}
+use Rattle.std.proofs.Common.{◌+◌, cond, get_or, drop, Some, sym, ap, ◌∙◌, arith}
 use Rattle.std.proofs.lemmas.List.{at_drop_more, at_drop_all}
-use Rattle.node_rules.specs.Rules.{broken_by, first_broken}
+use Rattle.node_rules.specs.Rules.{first_broken}
 use Rattle.node_rules.specs.declared.violation.Violation.TheVariants.{RepeatedName}
 use Rattle.node_rules.proofs.facts.Facts.first_of.Goals as goal
 

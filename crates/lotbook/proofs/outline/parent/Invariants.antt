@@ -1,7 +1,7 @@
 use Rattle.std.proofs.Common.{◌≡◌}
 use Rattle.layout.specs.Faults.{end_of}
 use Rattle.nodes.specs.Tree.{holder}
-use Rattle.wording.proofs.tree.parent.Given as goal
+use Rattle.lotbook.proofs.outline.parent.Given as goal
 
 -- the highest node below j that spans i
 abbrev pub invariant-loop-j : goal.invariant-loop-j

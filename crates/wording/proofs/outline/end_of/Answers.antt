@@ -1,6 +1,6 @@
 use Rattle.std.proofs.Common.{rules}
 use Rattle.layout.specs.Faults.{end_of}
-use Rattle.wording.proofs.tree.end_of.Goals as goal
+use Rattle.wording.proofs.outline.end_of.Goals as goal
 
 pub returns : goal.returns
 unfolding end_of

@@ -2,8 +2,8 @@ use Rattle.std.proofs.Common.{◌≡◌, arith}
 use Rattle.layout.specs.Faults.{end_of}
 use Rattle.nodes.specs.Tree.{depth}
 use Rattle.lotbook.proofs.Spans.{spans, misses, spans_self, misses_self}
-use Rattle.lotbook.proofs.tree.depth.Goals as goal
-use Rattle.lotbook.proofs.tree.depth.Goals.{then-i-end-of, else-i-end-of}
+use Rattle.lotbook.proofs.outline.depth.Goals as goal
+use Rattle.lotbook.proofs.outline.depth.Goals.{then-i-end-of, else-i-end-of}
 
 pub loop-j-preserved : goal.loop-j-preserved
 loop-j-preserved c =

@@ -1,7 +1,7 @@
 use Rattle.std.proofs.Common.{◌≡◌, ◌≤◌, length}
 use Rattle.layout.specs.Faults.{end_of}
 use Rattle.nodes.specs.Tree.{around}
-use Rattle.wording.proofs.tree.depth.Given as goal
+use Rattle.wording.proofs.outline.depth.Given as goal
 
 -- so many of the nodes below j span i
 abbrev pub invariant-loop-j : goal.invariant-loop-j

@@ -2,8 +2,8 @@ use Rattle.std.proofs.Common.{◌≡◌, sym, ◌∙◌, arith}
 use Rattle.layout.specs.Faults.{end_of}
 use Rattle.nodes.specs.Tree.{parent}
 use Rattle.wording.proofs.Spans.{holds, passes}
-use Rattle.wording.proofs.tree.parent.Goals as goal
-use Rattle.wording.proofs.tree.parent.Goals.{then-i-end-of, else-i-end-of}
+use Rattle.wording.proofs.outline.parent.Goals as goal
+use Rattle.wording.proofs.outline.parent.Goals.{then-i-end-of, else-i-end-of}
 
 pub loop-j-preserved : goal.loop-j-preserved
 loop-j-preserved c =

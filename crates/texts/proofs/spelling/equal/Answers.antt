@@ -1,9 +1,0 @@
-use Rattle.std.proofs.Common.{rules}
-use Rattle.std.proofs.lemmas.Slice.Eq.{slice_eq-Decides, bytes_eq-Decides}
-use Rattle.texts.proofs.spelling.equal.Goals as goal
-use Rattle.std.proofs.lemmas.Bool.Decides.{Decides-eqb}
-
-pub returns : goal.returns
-returns c =
-    let h = slice_eq-Decides Decides-eqb _ _ _ c.eq.ensures in
-    let s = bytes_eq-Decides c.args.a.now c.args.b.now in search rules
