@@ -46,8 +46,8 @@ fn study(
     contexts: &[Context],
     types: &mut [Option<Ty>],
 ) -> Option<Finding<Violation>>
-    requires nested { (Nested nodes.now) × ((Known nodes.now contexts.now (length nodes.now)) × ((length contexts.now ≡ 1024) × (length types.old ≡ 1024))) }
-    requires nodes_value { nodes.now ≡ nodes_of (file_of reader.now) }
+    requires known { (Nested nodes.now) × ((Known nodes.now contexts.now (length nodes.now)) × ((length contexts.now ≡ 1024) × (length types.old ≡ 1024))) }
+    requires nodes { nodes.now ≡ nodes_of (file_of reader.now) }
     ensures first { result ≡ first_violation (table_of (file_of reader.now)) }
     ensures types { TypedFrom (table_of (file_of reader.now)) types.new 0 }
 {

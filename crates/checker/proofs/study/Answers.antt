@@ -16,7 +16,7 @@ returns c =
     let m : c.has_main-main.result ≡ has_main ns (names file) =
     c.has_main-main.ensures ∙ ap (λ x. any test (kin ns 1 x)) c.end_of.ensures.value ∙ ap (any test) (kin_parts ns 0) in
     let q : table ns c.has_main-main.result ≡ table_of file =
-    ap (table ns) m ∙ ap (λ x. table x (has_main x (names file))) c.requires.1 in
+    ap (table ns) m ∙ ap (λ x. table x (has_main x (names file))) c.requires.nodes in
     record {
       first = c.find_violation.ensures.first ∙ ap first_violation q;
       types = subst (λ (t : Table). TypedFrom t c.find_violation.new.types 0) q c.find_violation.ensures.types;
