@@ -3,7 +3,6 @@ ghost use Rattle.std.specs.Prelude.{◌≡◌, min, IfOk, Ok};
 ghost use Rattle.book.specs.Meanings.{with_room, done, left};
 ghost use Rattle.book_makes.specs.Piles.{Found};
 ghost use Rattle.book_makes.specs.Slips.{slips_meaning, empty_slips};
-ghost use Rattle.std.proofs.Common.{rules, arith};
 
 use super::SlipsBook;
 use crate::slip::{fill_in, find_slip};
@@ -64,7 +63,7 @@ impl SlipsBook {
 impl Book for SlipsBook {
     ghost meaning = { slips_meaning };
 
-    ghost few = { first_of (Prim.search rules, Prim.grind (arith, Self.row.coded.inj)) };
+    ghost few = { λ book. book.few };
 
     fn lots(&self) -> u32 {
         self.lots

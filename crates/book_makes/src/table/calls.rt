@@ -2,7 +2,6 @@
 ghost use Rattle.std.specs.Prelude.{◌≡◌, ◌+◌, ◌*◌, ◌<◌, ◌≤◌, min, IfOk};
 ghost use Rattle.book.specs.Meanings.{written};
 ghost use Rattle.book_makes.specs.Tables.{table_meaning, empty_table};
-ghost use Rattle.std.proofs.Common.{rules, arith};
 
 use super::TableBook;
 use book::fault::BookFault;
@@ -47,7 +46,7 @@ fn index_of(spot: Spot) -> usize
 impl Book for TableBook {
     ghost meaning = { table_meaning };
 
-    ghost few = { first_of (Prim.search rules, Prim.grind (arith, Self.row.coded.inj)) };
+    ghost few = { λ book. book.few };
 
     fn lots(&self) -> u32 {
         self.lots

@@ -4,5 +4,5 @@ use Rattle.book_makes.proofs.table.TableBook.empty.Goals as goal
 
 pub returns : goal.returns
 returns c =
-    let copies = c.in-ok-cells.ensures.items-if-clones-equal (none_only _ (λ v p. p)) in
-    empty_is c.args.lots (vec_items c.in-ok-cells.cells) copies
+    let copies = c.in_ok-cells.ensures.items_if_clones_equal (none_only _ (λ v p. p)) in
+    empty_is c.args.lots (vec_items c.in_ok-cells.cells) copies

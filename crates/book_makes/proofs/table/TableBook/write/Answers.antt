@@ -8,4 +8,4 @@ returns c =
     let b = c.args.self.now in
     let fits = c.ranges.value in
     let is = write_is b.lots (vec_items b.cells) c.args.spot c.args.value c.requires.0 c.requires.1 (omega (arith, b.cells.ok.0)) in
-    simp (to_z-of_z, c.index-of.ensures) is
+    simp (to_z-of_z, c.index_of.ensures) is
