@@ -11,7 +11,7 @@ use Rattle.names.proofs.Nesting.{in_force_none}
 use Rattle.node_rules.specs.Rules.{cells_all}
 use Rattle.node_rules.specs.Scopes.{above, declares, scope, scope_in, in_force, cells_in, cells_of, is_variable, place}
 use Rattle.node_rules.specs.Tables as table
-use Rattle.semantics.specs.Rule.{Rule, node, kind_at, child, has, children}
+use Rattle.semantics.specs.Rule.{Rule, kind_at, child, has, children}
 use Rattle.soundness.specs.Checked.{offset}
 use Rattle.acceptance.proofs.Children.{nth_child, child_above}
 use Rattle.acceptance.proofs.Forces.{owns, cells_in_append, no_cells, owns_cells, owns_none, own_none, in_force_child}

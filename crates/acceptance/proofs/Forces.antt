@@ -15,7 +15,7 @@ use Rattle.node_rules.specs.Rules.{cells_all}
 use Rattle.node_rules.specs.Scopes.{above, declares, scope, in_force, cells_in, cells_of, is_variable}
 use Rattle.node_rules.specs.Tables as table
 use Rattle.node_rules.specs.declared.binding.Binding.{Binding}
-use Rattle.semantics.specs.Rule.{Rule, node, end, child, has, children}
+use Rattle.semantics.specs.Rule.{Rule, end, child, has, children}
 use Rattle.acceptance.proofs.Children.{has_count, child_nth, child_is, child_inside}
 
 -- The names that some nodes bring into force.

@@ -1,5 +1,4 @@
 -- No accepted rule is ever stuck: it has the facts of `Checked`, and no rule with these is.
-use Rattle.std.proofs.Common.{◌≡◌, ℕ, List}
 use Rattle.node_rules.specs.Rules.{type_of}
 use Rattle.node_rules.specs.Tables.{table_of}
 use Rattle.semantics.specs.Rule.{rule_of}

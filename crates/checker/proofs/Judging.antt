@@ -1,5 +1,5 @@
 -- One node more is judged.
-use Rattle.std.proofs.Common.{◌≡◌, ℕ, suc, ◌+◌, ◌-◌, ◌<◌, ◌≤◌, Bool, List, length, set, None, Option, sym, refl, ap, ◌∙◌, arith}
+use Rattle.std.proofs.Common.{◌≡◌, ℕ, suc, ◌+◌, ◌-◌, ◌<◌, List, length, set, None, Option, sym, refl, ap, ◌∙◌, arith}
 use Rattle.finding.specs.declared.Finding.{Finding}
 use Rattle.tree.specs.Spans.{Spanned}
 use Rattle.rule_laws.proofs.Typing.{facts_same_below, type_is}

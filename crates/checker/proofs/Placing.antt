@@ -1,5 +1,5 @@
 -- The nodes that a context names are nodes of the table.
-use Rattle.std.proofs.Common.{◌≡◌, ℕ, zero, suc, ◌+◌, ◌<◌, ◌≤◌, Bool, true, false, cond, eqb, ltb, List, [], ◌∷◌, length, Some, sym, refl, ap, ◌∙◌, subst, arith}
+use Rattle.std.proofs.Common.{◌≡◌, ℕ, zero, suc, ◌<◌, ◌≤◌, true, false, cond, eqb, ltb, List, [], ◌∷◌, length, sym, refl, subst, arith}
 use Rattle.std.specs.List.{AllByRecursion as All}
 use Rattle.std.proofs.lemmas.Bool.{cond_both}
 use Rattle.nodes.specs.Tree.{around, ancestors}
@@ -7,7 +7,7 @@ use Rattle.nodes.specs.declared.node.Node.{Node}
 use Rattle.names.proofs.Contexts.{above_inside}
 use Rattle.rule_laws.proofs.Meaning.{meant_below}
 use Rattle.node_rules.specs.Tables.{kind_at, end}
-use Rattle.node_rules.specs.Scopes.{above, scope, first_method, method_of, in_loop, meant, context}
+use Rattle.node_rules.specs.Scopes.{first_method, method_of, context}
 use Rattle.node_rules.specs.declared.context.Context.{Context}
 use Rattle.checker.specs.Kin.{Placed}
 

@@ -1,15 +1,15 @@
 -- What an accepted rule tells of a node is so.
-use Rattle.std.proofs.Common.{◌≡◌, ℕ, ◌-◌, ◌<◌, ◌≤◌, true, cond, ◌&&◌, ltb, List, length, get_or, take, Some, None, Option, sym, refl, ap, ◌∙◌, subst, arith, lt-ltb}
+use Rattle.std.proofs.Common.{◌≡◌, ℕ, ◌-◌, ◌<◌, true, cond, ◌&&◌, ltb, List, length, get_or, take, Some, None, Option, sym, refl, ap, ◌∙◌, subst, arith, lt-ltb}
 use Rattle.std.proofs.lemmas.List.{get_or-take}
 use Rattle.nodes.specs.declared.node.Node.{Node}
-use Rattle.names.specs.Walk.{Known, vacant}
+use Rattle.names.specs.Walk.{vacant}
 use Rattle.names.specs.Resolved.{NamesTold}
 use Rattle.names.specs.declared.Resolved.{Resolved}
-use Rattle.node_rules.specs.Tables.{blank, node, nodes_of, table_of}
-use Rattle.node_rules.specs.Scopes.{meant, place, body, context}
-use Rattle.node_rules.specs.Rules.{type_of, first_violation}
+use Rattle.node_rules.specs.Tables.{blank, nodes_of, table_of}
+use Rattle.node_rules.specs.Scopes.{body, context}
+use Rattle.node_rules.specs.Rules.{first_violation}
 use Rattle.node_rules.specs.declared.types.Ty.{Ty}
-use Rattle.checker.specs.Kin.{told, TypedFrom}
+use Rattle.checker.specs.Kin.{TypedFrom}
 use Rattle.checker.specs.Checked.{Tells, Accepted}
 
 -- a table's nodes are those of the file

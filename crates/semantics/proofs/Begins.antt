@@ -1,15 +1,15 @@
 -- A rule that is under way between calls has a node that is next to begin.
-use Rattle.std.proofs.Common.{◌≡◌, ℕ, ◌+◌, ◌≤◌, Bool, true, false, cond, ltb, leb, List, [], ◌∷◌, length, Some, None, Option, sym, refl, ◌∙◌, arith}
+use Rattle.std.proofs.Common.{◌≡◌, ℕ, ◌+◌, Bool, true, false, ltb, leb, List, [], ◌∷◌, length, Some, None, Option, sym, refl, ◌∙◌, arith}
 use Rattle.std.proofs.lemmas.Bool.{true≢false}
 use Rattle.book.specs.Meanings.{Meaning}
 use Rattle.finding.specs.declared.Finding.{Finding}
 use Rattle.checker.specs.declared.Refusal.{Refusal}
 use Rattle.semantics.specs.Acts.{State, Next, begins, hindered, moves, halts, finished, stuck, next, origin, begin_act, begun, stopped_at, needs, turned, last_act, first_act, given_act, by_pending}
-use Rattle.semantics.specs.Courses.{Runner, runner, World, world, Call, load, begin, go, close, refused, load_answer, load_after, begin_answer, begin_after, Plainly, Gone, Called, WentFrom, Course, over, call, CourseOf}
+use Rattle.semantics.specs.Courses.{Runner, runner, World, Call, load, begin, go, close, refused, load_after, begin_after, Plainly, Called, WentFrom, Course, over, call, CourseOf}
 use Rattle.semantics.specs.Kinds.{started, resumed}
 use Rattle.semantics.specs.Laws.{beginning, Beginning}
 use Rattle.semantics.specs.Rule.{Rule, node}
-use Rattle.semantics.specs.Runs.{ending, left_by, Going, none}
+use Rattle.semantics.specs.Runs.{ending, Going, none}
 use Rattle.semantics.specs.Turns.{Turn, runs, enters, ends, sets, deals, stops, no_turn}
 use Rattle.semantics.specs.declared.value.Value.{Value}
 use Rattle.semantics.specs.declared.answer.Answer.{Answer}

@@ -1,5 +1,5 @@
 -- The worked cases, each by computation in a declaration of its own, which bounds the memory of the check.
-use Rattle.std.proofs.Common.{◌≡◌, List, [], ◌∷◌, length, pos, negsuc, Some, None, refl}
+use Rattle.std.proofs.Common.{◌≡◌, [], ◌∷◌, length, pos, negsuc, Some, None, refl}
 use Rattle.std.specs.Int.{int_wrap}
 use Rattle.book.specs.declared.fault.BookFault.TheVariants as refusal
 use Rattle.checker.specs.declared.Refusal.TheVariants as denied

@@ -1,12 +1,12 @@
 -- A go and a course are determined by what they start from.
-use Rattle.std.proofs.Common.{◌≡◌, ℕ, suc, ◌+◌, ◌<◌, ◌≤◌, Bool, true, false, cond, ltb, List, [], ◌∷◌, ◌++◌, Some, None, Option, sym, refl, ap, ◌∙◌, arith}
+use Rattle.std.proofs.Common.{◌≡◌, ℕ, suc, ◌+◌, ◌≤◌, Bool, true, false, cond, ltb, List, Some, None, Option, sym, refl, ap, ◌∙◌, arith}
 use Rattle.std.proofs.lemmas.Bool.{ltb-false}
 use Rattle.book.specs.Meanings.{Meaning}
-use Rattle.semantics.specs.Acts.{State, Next, begins, moves, next}
-use Rattle.semantics.specs.Courses.{Runner, runner, World, world, Call, load, begin, go, close, Plainly, Gone, Called, WentFrom, Course, over, call}
+use Rattle.semantics.specs.Acts.{State, begins, moves, next}
+use Rattle.semantics.specs.Courses.{Runner, World, Call, load, begin, go, close, Plainly, Called, WentFrom, Course, over, call}
 use Rattle.semantics.specs.Laws.{SameGo, SameCourse}
 use Rattle.semantics.specs.Rule.{Rule}
-use Rattle.semantics.specs.Runs.{Acts, none, paid, freely, ending, left_by, Going}
+use Rattle.semantics.specs.Runs.{Acts, none, paid, freely, ending, Going}
 use Rattle.semantics.specs.declared.answer.Answer.{Answer}
 use Rattle.semantics.specs.declared.answer.Ending.{Ending}
 use Rattle.semantics.specs.declared.answer.Ending.TheVariants.{Spent}

@@ -1,12 +1,12 @@
 -- Courses computed: what a function with a bound on acts finds is a course of the definitions.
-use Rattle.std.proofs.Common.{◌≡◌, ℕ, zero, suc, ◌+◌, ◌≤◌, Bool, true, false, ltb, List, [], ◌∷◌, ◌++◌, ℤ, Some, None, Option, sym, refl, add-zero, add-one, arith}
+use Rattle.std.proofs.Common.{◌≡◌, ℕ, zero, suc, ◌+◌, Bool, true, false, ltb, List, [], ◌∷◌, ◌++◌, ℤ, Some, None, Option, sym, refl, add-one, arith}
 use Rattle.std.proofs.lemmas.Bool.Decides.{nat_tests}
 use Rattle.std.proofs.lemmas.Bool.{lt-ltb, true≢false}
 use Rattle.book.specs.Meanings.{Meaning}
 use Rattle.semantics.specs.Acts.{State, Next, begins, hindered, moves, halts, finished, stuck, next}
 use Rattle.semantics.specs.Courses.{Runner, runner, World, world, Call, load, begin, go, close, refused, load_answer, load_after, begin_answer, begin_after, close_answer, close_after, WentFrom, Called, Course, over, call, new_runner}
 use Rattle.semantics.specs.Rule.{Rule}
-use Rattle.semantics.specs.Runs.{Acts, none, paid, freely, ending, left_by, Going}
+use Rattle.semantics.specs.Runs.{none, paid, freely, ending, left_by, Going}
 use Rattle.semantics.specs.Worked.{empty_book, Case}
 use Rattle.semantics.specs.declared.answer.Answer.{Answer}
 use Rattle.semantics.specs.declared.answer.Answer.TheVariants.{Refused, Went}

@@ -3,7 +3,7 @@
 -- What is next is part of the state: a node that is to begin, a node that has just begun, or what a child gave. So every state has one next
 -- act at most, and no act looks for its node. Only the beginning of a node costs a unit; a node that lacks a place or cells is not begun,
 -- at no cost, and the place is looked at first. A state that is not at its end and has no next act is stuck.
-use Rattle.std.specs.Prelude.{ℕ, ◌+◌, true, false, List, [], ◌∷◌, ◌++◌, length, take, set, replicate, pos, Some, None, ◌==◌, nat_le, nat_lt, slice_set}
+use Rattle.std.specs.Prelude.{ℕ, ◌+◌, true, false, List, [], ◌∷◌, ◌++◌, length, take, replicate, pos, Some, None, ◌==◌, nat_le, nat_lt, slice_set}
 use Rattle.finding.specs.declared.Finding.{Finding}
 use Rattle.book.specs.Meanings.{Meaning}
 use Rattle.node_rules.specs.Rules.{cells_all}

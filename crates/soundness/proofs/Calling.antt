@@ -11,12 +11,11 @@ use Rattle.node_rules.specs.Types.{tagged}
 use Rattle.node_rules.specs.declared.types.Ty.{Ty}
 use Rattle.node_rules.specs.declared.types.Ty.TheVariants as ty
 use Rattle.semantics.specs.Rule.{Rule, node, kind_at, has, children, parameters, is_field, address, name_of}
-use Rattle.semantics.specs.Values.{is_of, stepped}
+use Rattle.semantics.specs.Values.{is_of}
 use Rattle.semantics.specs.Turns.{Turn, enters, sets, on_value, only_if}
 use Rattle.semantics.specs.Imports.{import_of, column_of, request_of, on_column, put_turn, get_turn, held_turn, request_turn, import_turn}
 use Rattle.semantics.specs.Kinds.{called, call_on, parameter_fits, suits, argument_turn, return_turn, fall_turn, result_turn, call_turn, started, resumed}
-use Rattle.semantics.specs.Acts.{finished, needs, first_came}
-use Rattle.semantics.specs.Runs.{none}
+use Rattle.semantics.specs.Acts.{needs, first_came}
 use Rattle.semantics.specs.declared.value.Value.{Value}
 use Rattle.semantics.specs.declared.import.Import.{Import}
 use Rattle.semantics.specs.declared.import.Request.{Request}

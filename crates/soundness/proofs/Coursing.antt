@@ -1,5 +1,5 @@
 -- In a course of calls from a new runner the rule is always one that was checked, and its state one that it has reached.
-use Rattle.std.proofs.Common.{◌≡◌, ℕ, List, Some, None, Option, sym, refl, ap, ◌∙◌, subst, arith}
+use Rattle.std.proofs.Common.{◌≡◌, ℕ, List, Some, None, Option, sym, refl, ◌∙◌, subst, arith}
 use Rattle.book.specs.Meanings.{Meaning}
 use Rattle.checker.specs.declared.Refusal.{Refusal}
 use Rattle.finding.specs.declared.Finding.{Finding}
@@ -16,9 +16,9 @@ use Rattle.node_rules.specs.Tables.{nodes_of, table_of}
 use Rattle.node_rules.specs.declared.types.Ty.{Ty}
 use Rattle.node_rules.specs.declared.violation.Violation.{Violation}
 use Rattle.semantics.specs.Acts.{State, stuck, next, origin}
-use Rattle.semantics.specs.Courses.{Runner, runner, World, world, Call, load, begin, go, close, by_fault, by_violation, refused, load_answer, load_after, begin_after, close_after, Called, Plainly, Gone, WentFrom, Course, over, call, CourseOf, first_rule, new_runner}
+use Rattle.semantics.specs.Courses.{Runner, runner, World, Call, load, begin, go, close, by_fault, by_violation, refused, load_after, begin_after, Called, Plainly, WentFrom, Course, over, call, CourseOf, first_rule, new_runner}
 use Rattle.semantics.specs.Rule.{Rule, rule_of}
-use Rattle.semantics.specs.Runs.{Acts, Going, left_by}
+use Rattle.semantics.specs.Runs.{Acts, left_by}
 use Rattle.semantics.specs.declared.answer.Answer.{Answer}
 use Rattle.semantics.specs.declared.answer.Ending.{Ending}
 use Rattle.semantics.specs.declared.answer.Ending.TheVariants.{Finished, Spent, Stopped}

@@ -1,4 +1,4 @@
-use Rattle.std.proofs.Common.{◌≡◌, sym, ◌∙◌}
+use Rattle.std.proofs.Common.{sym, ◌∙◌}
 use Rattle.layout.specs.Readers.{file_of}
 use Rattle.checker.proofs.Telling.{accepted}
 use Rattle.checker.proofs.judge.Goals as goal

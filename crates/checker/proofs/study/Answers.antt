@@ -1,7 +1,7 @@
-use Rattle.std.proofs.Common.{◌≡◌, length, sym, ap, ◌∙◌, subst}
+use Rattle.std.proofs.Common.{◌≡◌, ap, ◌∙◌, subst}
 use Rattle.layout.specs.Items.{names}
 use Rattle.layout.specs.Readers.{file_of}
-use Rattle.node_rules.specs.Tables.{Table, any, is_main, has_main, nodes_of, table_of}
+use Rattle.node_rules.specs.Tables.{Table, any, is_main, has_main, table_of}
 use Rattle.node_rules.specs.Rules.{first_violation}
 use Rattle.checker.specs.Kin.{kin, table, TypedFrom}
 use Rattle.checker.proofs.Kinship.{kin_parts}

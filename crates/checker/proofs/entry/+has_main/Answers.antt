@@ -1,4 +1,4 @@
-use Rattle.std.proofs.Common.{◌≡◌, true, false, ◌||◌, sym, refl, ap, ◌∙◌}
+use Rattle.std.proofs.Common.{◌||◌, sym, ap, ◌∙◌}
 use Rattle.layout.specs.Items.{names}
 use Rattle.layout.specs.Readers.{file_of}
 use Rattle.node_rules.specs.Tables.{end, any, is_main}

@@ -1,4 +1,4 @@
-use Rattle.std.proofs.Common.{◌≡◌, ◌+◌, ◌≤◌, not, eqb, length, sym, refl, ap, arith}
+use Rattle.std.proofs.Common.{◌+◌, not, eqb, sym, ap, arith}
 use Rattle.std.proofs.lemmas.List.{get_or_past}
 use Rattle.nodes.specs.Kinds.{number}
 use Rattle.node_rules.specs.Tables.{blank}

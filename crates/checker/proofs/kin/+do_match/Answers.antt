@@ -1,10 +1,10 @@
-use Rattle.std.proofs.Common.{◌≡◌, ℕ, ◌<◌, ◌≤◌, Bool, true, false, not, ◌&&◌, leb, List, [], ◌∷◌, length, Option, sym, refl, ap, ◌∙◌, inl, inr, arith}
+use Rattle.std.proofs.Common.{◌≡◌, ℕ, ◌<◌, ◌≤◌, true, false, not, ◌&&◌, leb, List, [], ◌∷◌, length, Option, sym, ap, ◌∙◌, inl, inr, arith}
 use Rattle.std.proofs.lemmas.Bool.{cases_lt}
 use Rattle.std.proofs.lemmas.Bool.Decides.{nat_tests}
 use Rattle.nodes.specs.declared.node.Node.{Node}
 use Rattle.names.specs.Walk.{Nested}
 use Rattle.node_rules.specs.Tables.{node, end}
-use Rattle.node_rules.specs.Rules.{same_kind, takes, matches}
+use Rattle.node_rules.specs.Rules.{takes, matches}
 use Rattle.node_rules.specs.declared.types.Ty.{Ty}
 use Rattle.checker.specs.Kin.{kin, told}
 use Rattle.checker.proofs.Kinship.{kin_none, kin_more}

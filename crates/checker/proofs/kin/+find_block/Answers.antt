@@ -1,5 +1,5 @@
-use Rattle.std.proofs.Common.{◌≡◌, cond, sym, ap, ◌∙◌, arith}
-use Rattle.node_rules.specs.Tables.{node, end}
+use Rattle.std.proofs.Common.{cond, sym, ap, ◌∙◌}
+use Rattle.node_rules.specs.Tables.{end}
 use Rattle.node_rules.specs.Scopes.{first_block}
 use Rattle.checker.specs.Kin.{kin}
 use Rattle.checker.proofs.Kinship.{kin_none, kin_more}

@@ -1,5 +1,5 @@
-use Rattle.std.proofs.Common.{◌≡◌, ◌+◌, ◌-◌, ◌≤◌, sym, ap, ◌∙◌, arith}
-use Rattle.node_rules.specs.Tables.{node, end}
+use Rattle.std.proofs.Common.{sym, ap, ◌∙◌, arith}
+use Rattle.node_rules.specs.Tables.{node}
 use Rattle.node_rules.specs.Rules.{held, with_child}
 use Rattle.checker.specs.Kin.{kin, told}
 use Rattle.checker.proofs.Kinship.{kin_none, kin_more}

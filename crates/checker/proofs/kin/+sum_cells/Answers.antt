@@ -1,5 +1,5 @@
-use Rattle.std.proofs.Common.{◌≡◌, ◌+◌, ◌-◌, ◌*◌, ◌≤◌, sym, ap, ◌∙◌, arith}
-use Rattle.node_rules.specs.Tables.{node, end}
+use Rattle.std.proofs.Common.{◌+◌, sym, ap, ◌∙◌, arith}
+use Rattle.node_rules.specs.Tables.{node}
 use Rattle.node_rules.specs.Scopes.{cells_of}
 use Rattle.node_rules.specs.Rules.{cells_all}
 use Rattle.checker.specs.Kin.{kin}

@@ -1,5 +1,5 @@
-use Rattle.std.proofs.Common.{◌≡◌, ◌+◌, cond, sym, refl, ap, ◌∙◌}
-use Rattle.node_rules.specs.Tables.{end, parts}
+use Rattle.std.proofs.Common.{◌+◌, cond, sym, ap, ◌∙◌}
+use Rattle.node_rules.specs.Tables.{parts}
 use Rattle.node_rules.specs.Scopes.{first_block, body}
 use Rattle.checker.specs.Kin.{kin}
 use Rattle.checker.proofs.Kinship.{kin_parts}

@@ -1,10 +1,9 @@
-use Rattle.std.proofs.Common.{◌≡◌, ◌+◌, sym, refl, ap, ◌∙◌}
-use Rattle.node_rules.specs.Tables.{node, end, parts}
-use Rattle.node_rules.specs.Scopes.{above, repeated, meant, method_of, in_loop}
+use Rattle.std.proofs.Common.{◌≡◌, ◌+◌, ap, ◌∙◌}
+use Rattle.node_rules.specs.Tables.{node, parts}
+use Rattle.node_rules.specs.Scopes.{above, meant, method_of}
 use Rattle.node_rules.specs.Types.{tagged}
-use Rattle.node_rules.specs.Rules.{declared, held, matching, facts}
-use Rattle.node_rules.specs.declared.facts.Facts.{Facts}
-use Rattle.checker.specs.Kin.{kin, told, table}
+use Rattle.node_rules.specs.Rules.{declared, held, matching}
+use Rattle.checker.specs.Kin.{kin, told}
 use Rattle.checker.proofs.Kinship.{kin_parts}
 use Rattle.checker.proofs.pass.facts_at.Goals as goal
 

@@ -1,6 +1,6 @@
-use Rattle.std.proofs.Common.{◌≡◌, length, sym, ap, ◌∙◌}
-use Rattle.node_rules.specs.Rules.{cells_all, field_cells, first_from, or_cells, first_violation}
-use Rattle.checker.specs.Kin.{kin, table}
+use Rattle.std.proofs.Common.{◌≡◌, ap, ◌∙◌}
+use Rattle.node_rules.specs.Rules.{cells_all, field_cells, or_cells, first_violation}
+use Rattle.checker.specs.Kin.{kin}
 use Rattle.checker.proofs.Kinship.{kin_parts}
 use Rattle.checker.proofs.pass.find_violation.Goals as goal
 

@@ -1,4 +1,4 @@
-use Rattle.std.proofs.Common.{◌≡◌, ◌+◌, ◌-◌, ◌<◌, ◌≤◌, length, sym, ap, ◌∙◌, subst, arith}
+use Rattle.std.proofs.Common.{◌≡◌, ◌+◌, ◌-◌, ◌<◌, length, ap, ◌∙◌, subst, arith}
 use Rattle.node_rules.specs.Rules.{first_from}
 use Rattle.checker.specs.Kin.{table, TypedFrom}
 use Rattle.checker.proofs.Judging.{judged_first, judged_types}

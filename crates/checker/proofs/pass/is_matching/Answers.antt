@@ -1,4 +1,4 @@
-use Rattle.std.proofs.Common.{◌≡◌, ◌+◌, sym, refl, ap, ◌∙◌}
+use Rattle.std.proofs.Common.{◌+◌, sym, ap, ◌∙◌}
 use Rattle.node_rules.specs.Tables.{end, parts}
 use Rattle.node_rules.specs.Rules.{matches, matching}
 use Rattle.checker.specs.Kin.{kin, told}

@@ -1,5 +1,5 @@
-use Rattle.std.proofs.Common.{◌≡◌, eqb, Some, None, sym, refl, ap, ◌∙◌}
-use Rattle.node_rules.specs.Scopes.{scope, meant, of_scope, repeated}
+use Rattle.std.proofs.Common.{eqb, sym, ap, ◌∙◌}
+use Rattle.node_rules.specs.Scopes.{scope, of_scope, repeated}
 use Rattle.checker.proofs.pass.is_repeated.Goals as goal
 
 pub returns-in-Some : goal.returns-in-Some
