@@ -87,7 +87,7 @@ fn declare(nodes: &[Node], i: usize, parent: usize, names: &mut Names, used: usi
 }
 
 // A node of any kind, and all below it.
-#[cycle(block_children_declaration_expression_statement_visit)]
+#[cycle(visiting)]
 fn visit(nodes: &[Node], i: usize, parent: usize, names: &mut Names, count: &mut Count)
     requires ready { Ready nodes.now names.old.bindings names.old.contexts count.old.used i }
     requires child { Child (end nodes.now) parent i }
@@ -106,7 +106,7 @@ fn visit(nodes: &[Node], i: usize, parent: usize, names: &mut Names, count: &mut
 }
 
 // A declaration: its name is in force from here on. A method holds parameters and its body.
-#[cycle(block_children_declaration_expression_statement_visit)]
+#[cycle(visiting)]
 fn declaration(nodes: &[Node], i: usize, parent: usize, names: &mut Names, count: &mut Count)
     requires ready { Ready nodes.now names.old.bindings names.old.contexts count.old.used i }
     requires child { Child (end nodes.now) parent i }
@@ -119,7 +119,7 @@ fn declaration(nodes: &[Node], i: usize, parent: usize, names: &mut Names, count
 }
 
 // A block: nothing of its own is named.
-#[cycle(block_children_declaration_expression_statement_visit)]
+#[cycle(visiting)]
 fn block(nodes: &[Node], i: usize, parent: usize, names: &mut Names, count: &mut Count)
     requires ready { Ready nodes.now names.old.bindings names.old.contexts count.old.used i }
     requires child { Child (end nodes.now) parent i }
@@ -131,7 +131,7 @@ fn block(nodes: &[Node], i: usize, parent: usize, names: &mut Names, count: &mut
 }
 
 // A statement: a for names its index.
-#[cycle(block_children_declaration_expression_statement_visit)]
+#[cycle(visiting)]
 fn statement(nodes: &[Node], i: usize, parent: usize, names: &mut Names, count: &mut Count)
     requires ready { Ready nodes.now names.old.bindings names.old.contexts count.old.used i }
     requires child { Child (end nodes.now) parent i }
@@ -146,7 +146,7 @@ fn statement(nodes: &[Node], i: usize, parent: usize, names: &mut Names, count: 
 }
 
 // An expression or a string: locations, calls and len use a name.
-#[cycle(block_children_declaration_expression_statement_visit)]
+#[cycle(visiting)]
 fn expression(nodes: &[Node], i: usize, parent: usize, names: &mut Names, count: &mut Count)
     requires ready { Ready nodes.now names.old.bindings names.old.contexts count.old.used i }
     requires child { Child (end nodes.now) parent i }
@@ -161,7 +161,7 @@ fn expression(nodes: &[Node], i: usize, parent: usize, names: &mut Names, count:
 }
 
 // The children of a node: the names that they declare are in force to its end.
-#[cycle(block_children_declaration_expression_statement_visit)]
+#[cycle(visiting)]
 fn children(nodes: &[Node], i: usize, names: &mut Names, count: &mut Count)
     requires { Entered nodes.now names.old.bindings names.old.contexts count.old.used i }
     ensures { Walked nodes.now (end nodes.now i) [] names.old.bindings count.old.used names.new.bindings names.new.contexts count.new.used }

@@ -1,7 +1,7 @@
 -- A child has a higher number than its parent; a node is visited, then entered, then its children.
 use Rattle.std.proofs.Common.{◌≡◌, ◌+◌, ◌-◌, ◌*◌, length}
 use Rattle.names.proofs.Walking.{Going}
-use Rattle.names.proofs.walk.+block_children_declaration_expression_statement_visit.Given as goal
+use Rattle.names.proofs.walk.+visiting.Given as goal
 
 abbrev pub decreases-visit : goal.decreases-visit
 decreases-visit l = 3 * (length l.nodes.now - l.i) + 2

@@ -3,7 +3,7 @@ use Rattle.node_rules.specs.Tables.{kind_at, end}
 use Rattle.node_rules.specs.Scopes.{declares, uses}
 use Rattle.names.proofs.Contexts.{standing, means_told, no_place, statement_named, expression_named, expression_plain}
 use Rattle.names.proofs.Walking.{entered_plain, entered_own, pushed_own, walked_plain, walked_own, going_next, going_done}
-use Rattle.names.proofs.walk.+block_children_declaration_expression_statement_visit.Goals as goal
+use Rattle.names.proofs.walk.+visiting.Goals as goal
 
 pub block-enter-requires : goal.block-enter-requires
 block-enter-requires t c =
