@@ -112,7 +112,11 @@ impl Kind {
     {
         matches!(
             self,
-            Kind::Import | Kind::ScalarDeclaration | Kind::ArrayDeclaration | Kind::Method | Kind::Parameter
+            Kind::Import
+                | Kind::ScalarDeclaration
+                | Kind::ArrayDeclaration
+                | Kind::Method
+                | Kind::Parameter
         )
     }
 
