@@ -1,9 +1,10 @@
 -- One more call of a list, and one more lot or column of the list of values.
-use Rattle.std.proofs.Common.{◌≡◌, ℕ, ◌+◌, ◌<◌, ◌≤◌, List, [], ◌∷◌, ◌++◌, length, get_or, drop, refl, append_assoc, add-one, drop-cons}
+use Rattle.std.proofs.Common.{◌≡◌, ℕ, ◌+◌, ◌<◌, ◌≤◌, List, [], ◌∷◌, ◌++◌, length, Result, get_or, drop, refl, append_assoc, add-one, drop-cons}
 use Rattle.std.proofs.lemmas.List.{drop_all, append-nil}
 use Rattle.book.specs.Meanings.{Meaning}
 use Rattle.book.specs.Calls.{answer_of, after, answers, after_all}
 use Rattle.book.specs.Values.{entry, in_columns, values_below}
+use Rattle.book.specs.declared.fault.BookFault.{BookFault}
 use Rattle.book.specs.declared.calls.Call.{Call}
 use Rattle.book.specs.declared.calls.Answer.{Answer}
 use Rattle.book.specs.declared.values.Entry.{Entry}
@@ -13,11 +14,11 @@ module _ (cs : List Call) (i : ℕ) (d : Call) (m : Meaning) (here : i < length 
   pub after_more : after_all (after m (get_or cs i d)) (drop (i + 1) cs) ≡ after_all m (drop i cs)
   after_more = rw (add-one, drop-cons cs i d) refl
 
-  pub answers_more : (told : List Answer) → (told ++ answer_of m (get_or cs i d) ∷ []) ++ answers (after m (get_or cs i d)) (drop (i + 1) cs) ≡ told ++ answers m (drop i cs)
+  pub answers_more : (told : List (Result Answer BookFault)) → (told ++ answer_of m (get_or cs i d) ∷ []) ++ answers (after m (get_or cs i d)) (drop (i + 1) cs) ≡ told ++ answers m (drop i cs)
   answers_more told = rw (add-one, drop-cons cs i d, append_assoc) refl
 
 -- No call is left.
-pub calls_all : (cs : List Call) (i : ℕ) (m : Meaning) (told : List Answer) → length cs ≤ i → (told ++ answers m (drop i cs) ≡ told) × (after_all m (drop i cs) ≡ m)
+pub calls_all : (cs : List Call) (i : ℕ) (m : Meaning) (told : List (Result Answer BookFault)) → length cs ≤ i → (told ++ answers m (drop i cs) ≡ told) × (after_all m (drop i cs) ≡ m)
 calls_all cs i m told h = (rw (drop_all, append-nil) refl, rw drop_all refl)
 
 pub columns_more : (m : Meaning) (l c : ℕ) (found : List Entry) → (found ++ in_columns m l c) ++ entry l c (m.value c l) ≡ found ++ in_columns m l (c + 1)
