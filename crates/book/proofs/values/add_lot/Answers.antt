@@ -2,7 +2,7 @@ use Rattle.std.proofs.Common.{refl, rules, tests}
 use Rattle.std.proofs.lemmas.Iterator.{YieldsList-from_range}
 use Rattle.std.proofs.lemmas.Iterator.Adapters.{items_from_extend}
 use Rattle.std.proofs.lemmas.Iterator.Consumers.{YieldsList-at, YieldsList-from_filter_map}
-use Rattle.book.proofs.Steps.{entries_at, lot_entries}
+use Rattle.book.proofs.Entries.{entries_at, lot_entries}
 use Rattle.book.proofs.values.add_lot.Goals as goal
 
 pub returns : goal.returns
