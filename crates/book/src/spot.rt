@@ -6,7 +6,7 @@ use crate::COLUMNS;
 use crate::fault::BookFault;
 
 /// A column and a lot. `find_spot` gives only those that a book has.
-#[derive(Clone, Copy, PartialEq, Eq, Debug)]
+#[derive(Clone, Copy, PartialEq, Eq, Hash, Debug)]
 pub struct Spot {
     pub column: u32,
     pub lot: u32,
