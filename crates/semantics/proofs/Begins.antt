@@ -1,5 +1,5 @@
 -- A rule that is under way between calls has a node that is next to begin.
-use Rattle.std.proofs.Common.{◌≡◌, ℕ, ◌+◌, Bool, true, false, ltb, leb, List, [], ◌∷◌, length, Some, None, Option, sym, refl, ◌∙◌, arith}
+use Rattle.std.proofs.Common.{◌≡◌, ℕ, ◌+◌, Bool, true, false, ltb, leb, List, [], ◌∷◌, length, Some, None, Option, sym, refl, ◌∙◌, arith, Result}
 use Rattle.std.proofs.lemmas.Bool.{true≢false}
 use Rattle.book.specs.Meanings.{Meaning}
 use Rattle.finding.specs.declared.Finding.{Finding}
@@ -13,6 +13,7 @@ use Rattle.semantics.specs.Runs.{ending, Going, none}
 use Rattle.semantics.specs.Turns.{Turn, runs, enters, ends, sets, deals, stops, no_turn}
 use Rattle.semantics.specs.declared.value.Value.{Value}
 use Rattle.semantics.specs.declared.answer.Answer.{Answer}
+use Rattle.semantics.specs.declared.answer.Denial.{Denial}
 use Rattle.semantics.specs.declared.answer.Ending.{Ending}
 use Rattle.semantics.specs.declared.answer.Ending.TheVariants.{Finished, Spent, Stopped}
 use Rattle.semantics.specs.declared.import.Event.{Event}
@@ -119,7 +120,7 @@ begin_ready : (z : Option State) (w : Runner) → Ready w → Ready (begin_after
 begin_ready (Some s) w h = h
 begin_ready None w h = λ s e. rw (← (some_out (origin w.rule) s e)) (origin_begins w.rule)
 
-plain_ready : (w : World) (b : Answer) (u : Runner) (a : Answer) (es : List Event) (v : World) → Plainly w b u a es v → Ready u → Ready v.runner
+plain_ready : (w : World) (b : Result Answer Denial) (u : Runner) (a : Result Answer Denial) (es : List Event) (v : World) → Plainly w b u a es v → Ready u → Ready v.runner
 plain_ready w b u a es v x h = rw x.leaves h
 
 left_ready : (r : Rule) (b units : ℕ) (s : State) (m n : Meaning) (es : List Event) (how : Ending) (z : Option State) → Going r b s m how units es z n → (t : State) → z ≡ Some t → Beginning r t
@@ -127,20 +128,20 @@ left_ready r b units s m n es Finished z g t e = no_some t (sym g.leaves ∙ e)
 left_ready r b units s m n es Spent z g t e = spent_begins r b units s t m n es (rw e at g)
 left_ready r b units s m n es (Stopped f) z g t e = no_some t (sym g.leaves ∙ e)
 
-went_ready : (z : Option State) (w : World) (b : ℕ) (a : Answer) (es : List Event) (v : World) → WentFrom z w b a es v → Ready w.runner → Ready v.runner
+went_ready : (z : Option State) (w : World) (b : ℕ) (a : Result Answer Denial) (es : List Event) (v : World) → WentFrom z w b a es v → Ready w.runner → Ready v.runner
 went_ready None w b a es v x h = plain_ready w _ _ a es v x h
 went_ready (Some s) w b a es v x h =
     λ t e. rw x.keeps (left_ready w.runner.rule b x.units s w.book v.book es x.how v.runner.under_way x.going t e)
 
-called_ready : (c : Call) (w : World) (a : Answer) (es : List Event) (v : World) → Called c w a es v → Ready w.runner → Ready v.runner
+called_ready : (c : Call) (w : World) (a : Result Answer Denial) (es : List Event) (v : World) → Called c w a es v → Ready w.runner → Ready v.runner
 called_ready (load file) w a es v x h = plain_ready w _ _ a es v x (load_ready w.runner.under_way (refused file) file w.runner h)
 called_ready begin w a es v x h = plain_ready w _ _ a es v x (begin_ready w.runner.under_way w.runner h)
 called_ready (go b) w a es v x h = went_ready w.runner.under_way w b a es v x h
 called_ready close w a es v x h = plain_ready w _ _ a es v x (idle _)
 
-course_ready : {cs : List Call} {w v : World} {bs : List Answer} {es : List Event} → Course cs w bs es v → Ready w.runner → Ready v.runner
+course_ready : {cs : List Call} {w v : World} {bs : List (Result Answer Denial)} {es : List Event} → Course cs w bs es v → Ready w.runner → Ready v.runner
 course_ready over h = h
 course_ready {w = w} (call {c = c} {v = v} {a = a} e x t) h = course_ready t (called_ready c w a e v x h)
 
-pub under_way_begins : (m : Meaning) (cs : List Call) (bs : List Answer) (es : List Event) (w : World) (s : State) → CourseOf m cs bs es w → w.runner.under_way ≡ Some s → Beginning w.runner.rule s
+pub under_way_begins : (m : Meaning) (cs : List Call) (bs : List (Result Answer Denial)) (es : List Event) (w : World) (s : State) → CourseOf m cs bs es w → w.runner.under_way ≡ Some s → Beginning w.runner.rule s
 under_way_begins m cs bs es w s c e = course_ready c (idle _) s e

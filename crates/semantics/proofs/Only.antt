@@ -1,5 +1,5 @@
 -- A go and a course are determined by what they start from.
-use Rattle.std.proofs.Common.{◌≡◌, ℕ, suc, ◌+◌, ◌≤◌, Bool, true, false, cond, ltb, List, Some, None, Option, sym, refl, ap, ◌∙◌, arith}
+use Rattle.std.proofs.Common.{◌≡◌, ℕ, suc, ◌+◌, ◌≤◌, Bool, true, false, cond, ltb, List, Some, None, Option, sym, refl, ap, ◌∙◌, arith, Result}
 use Rattle.std.proofs.lemmas.Bool.{ltb-false}
 use Rattle.book.specs.Meanings.{Meaning}
 use Rattle.semantics.specs.Acts.{State, begins, moves, next}
@@ -8,6 +8,7 @@ use Rattle.semantics.specs.Laws.{SameGo, SameCourse}
 use Rattle.semantics.specs.Rule.{Rule}
 use Rattle.semantics.specs.Runs.{Acts, none, paid, freely, ending, Going}
 use Rattle.semantics.specs.declared.answer.Answer.{Answer}
+use Rattle.semantics.specs.declared.answer.Denial.{Denial}
 use Rattle.semantics.specs.declared.answer.Ending.{Ending}
 use Rattle.semantics.specs.declared.answer.Ending.TheVariants.{Spent}
 use Rattle.semantics.specs.declared.import.Event.{Event}
@@ -60,16 +61,16 @@ runner_path w v x y = λ i. record { rule = x i; under_way = y i }
 world_path : (w v : World) → w.runner ≡ v.runner → w.book ≡ v.book → w ≡ v
 world_path w v x y = λ i. record { runner = x i; book = y i }
 
-record SameCall (a a' : Answer) (e e' : List Event) (v v' : World) : Type 0 where
+record SameCall (a a' : Result Answer Denial) (e e' : List Event) (v v' : World) : Type 0 where
   answer : a ≡ a'
   events : e ≡ e'
   world : v ≡ v'
 
-plainly_only : (w : World) (b : Answer) (u : Runner) (a a' : Answer) (e e' : List Event) (v v' : World) → Plainly w b u a e v → Plainly w b u a' e' v' → SameCall a a' e e' v v'
+plainly_only : (w : World) (b : Result Answer Denial) (u : Runner) (a a' : Result Answer Denial) (e e' : List Event) (v v' : World) → Plainly w b u a e v → Plainly w b u a' e' v' → SameCall a a' e e' v v'
 plainly_only w b u a a' e e' v v' x y =
     record { answer = x.answers ∙ sym y.answers; events = x.quiet ∙ sym y.quiet; world = x.leaves ∙ sym y.leaves }
 
-went_only : (o : Option State) (n : ℕ) (w : World) (a a' : Answer) (e e' : List Event) (v v' : World) → WentFrom o w n a e v → WentFrom o w n a' e' v' → SameCall a a' e e' v v'
+went_only : (o : Option State) (n : ℕ) (w : World) (a a' : Result Answer Denial) (e e' : List Event) (v v' : World) → WentFrom o w n a e v → WentFrom o w n a' e' v' → SameCall a a' e e' v v'
 went_only None n w a a' e e' v v' x y = plainly_only w _ _ a a' e e' v v' x y
 went_only (Some s) n w a a' e e' v v' x y =
     let i = going_only w.runner.rule n s w.book x.how y.how x.units y.units e e' _ _ v.book v'.book x.going y.going in
@@ -79,13 +80,13 @@ went_only (Some s) n w a a' e e' v v' x y =
       world = world_path v v' (runner_path v.runner v'.runner (x.keeps ∙ sym y.keeps) i.left) i.book;
     }
 
-called_only : (c : Call) (w : World) (a a' : Answer) (e e' : List Event) (v v' : World) → Called c w a e v → Called c w a' e' v' → SameCall a a' e e' v v'
+called_only : (c : Call) (w : World) (a a' : Result Answer Denial) (e e' : List Event) (v v' : World) → Called c w a e v → Called c w a' e' v' → SameCall a a' e e' v v'
 called_only (load file) w a a' e e' v v' x y = plainly_only w _ _ a a' e e' v v' x y
 called_only begin w a a' e e' v v' x y = plainly_only w _ _ a a' e e' v v' x y
 called_only (go n) w a a' e e' v v' x y = went_only w.runner.under_way n w a a' e e' v v' x y
 called_only close w a a' e e' v v' x y = plainly_only w _ _ a a' e e' v v' x y
 
-pub course_only : {cs : List Call} {w v v' : World} {bs bs' : List Answer} {es es' : List Event} → Course cs w bs es v → Course cs w bs' es' v' → SameCourse bs bs' es es' v v'
+pub course_only : {cs : List Call} {w v v' : World} {bs bs' : List (Result Answer Denial)} {es es' : List Event} → Course cs w bs es v → Course cs w bs' es' v' → SameCourse bs bs' es es' v v'
 course_only over over = record { answers = refl; events = refl; world = refl }
 course_only {w = w} (call {c = c} {v = v} {a = a} e x t) (call {v = v'} {a = a'} e' x' t') =
     let i = called_only c w a a' e e' v v' x x' in

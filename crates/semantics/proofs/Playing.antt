@@ -1,5 +1,5 @@
 -- Courses computed: what a function with a bound on acts finds is a course of the definitions.
-use Rattle.std.proofs.Common.{◌≡◌, ℕ, zero, suc, ◌+◌, Bool, true, false, ltb, List, [], ◌∷◌, ◌++◌, ℤ, Some, None, Option, sym, refl, add-one, arith}
+use Rattle.std.proofs.Common.{◌≡◌, ℕ, zero, suc, ◌+◌, Bool, true, false, ltb, List, [], ◌∷◌, ◌++◌, ℤ, Some, None, Option, sym, refl, add-one, arith, Ok, Err, Result}
 use Rattle.std.proofs.lemmas.Bool.Decides.{nat_tests}
 use Rattle.std.proofs.lemmas.Bool.{lt-ltb, true≢false}
 use Rattle.book.specs.Meanings.{Meaning}
@@ -9,7 +9,8 @@ use Rattle.semantics.specs.Rule.{Rule}
 use Rattle.semantics.specs.Runs.{none, paid, freely, ending, left_by, Going}
 use Rattle.semantics.specs.Worked.{empty_book, Case}
 use Rattle.semantics.specs.declared.answer.Answer.{Answer}
-use Rattle.semantics.specs.declared.answer.Answer.TheVariants.{Refused, Went}
+use Rattle.semantics.specs.declared.answer.Denial.{Denial}
+use Rattle.semantics.specs.declared.answer.Answer.TheVariants.{Went}
 use Rattle.semantics.specs.declared.answer.Denial.TheVariants.{Idle}
 use Rattle.semantics.specs.declared.answer.Ending.{Ending}
 use Rattle.semantics.specs.declared.answer.Ending.TheVariants.{Finished, Spent, Stopped}
@@ -110,23 +111,23 @@ play_sound (suc f) r b s m o h = by_next_sound r (play f r) (λ b s m o x. play_
 
 -- One call.
 pub record Reply : Type 0 where
-  pub answer : Answer
+  pub answer : Result Answer Denial
   pub events : List Event
   pub after : World
 
-abbrev pub plainly : World → Answer → Runner → Option Reply
+abbrev pub plainly : World → Result Answer Denial → Runner → Option Reply
 plainly w a u = Some (record { answer = a; events = []; after = world u w.book })
 
 abbrev pub gone : World → Option Out → Option Reply
 gone w None = None
 gone w (Some o) = Some (record {
-  answer = Went o.how o.units;
+  answer = Ok (Went o.how o.units);
   events = o.events;
   after = world (runner w.runner.rule (left_by o.how o.last)) o.book;
 })
 
 abbrev pub go_reply : ℕ → ℕ → World → Option State → Option Reply
-go_reply f b w None = plainly w (Refused Idle) w.runner
+go_reply f b w None = plainly w (Err Idle) w.runner
 go_reply f b w (Some s) = gone w (play f w.runner.rule b s w.book)
 
 abbrev pub reply : ℕ → Call → World → Option Reply
@@ -153,7 +154,7 @@ reply_sound f close w y h = rw (← (some_out _ y h)) (record { answers = refl; 
 
 -- Calls one after another.
 pub record Story : Type 0 where
-  pub answers : List Answer
+  pub answers : List (Result Answer Denial)
   pub events : List Event
   pub after : World
 
@@ -186,7 +187,7 @@ plays_sound f [] w y h = rw (← (some_out _ y h)) over
 plays_sound f (c ∷ cs) w y h = told_call f c cs w (reply f c w) y refl (λ v z x. plays_sound f cs v z x) h
 
 -- What a case compares: small values, and not the whole story, which would be written out.
-abbrev pub answers_of : Option Story → List Answer
+abbrev pub answers_of : Option Story → List (Result Answer Denial)
 answers_of None = []
 answers_of (Some y) = y.answers
 
@@ -198,10 +199,10 @@ abbrev pub is_told : Option Story → Bool
 is_told None = false
 is_told (Some y) = true
 
-found_in : (cs : List Call) (bs : List Answer) (c l : ℕ) (x : Option ℤ) (f : ℕ) (o : Option Story) → plays f cs (world new_runner empty_book) ≡ o → is_told o ≡ true → answers_of o ≡ bs → value_of c l o ≡ x → Case cs bs c l x
+found_in : (cs : List Call) (bs : List (Result Answer Denial)) (c l : ℕ) (x : Option ℤ) (f : ℕ) (o : Option Story) → plays f cs (world new_runner empty_book) ≡ o → is_told o ≡ true → answers_of o ≡ bs → value_of c l o ≡ x → Case cs bs c l x
 found_in cs bs c l x f None h t a v = absurd (true≢false (sym t))
 found_in cs bs c l x f (Some y) h t a v =
     record { events = y.events; after = y.after; course = rw a at (plays_sound f cs (world new_runner empty_book) y h); value = v }
 
-pub found : (cs : List Call) (bs : List Answer) (c l : ℕ) (x : Option ℤ) (f : ℕ) → is_told (plays f cs (world new_runner empty_book)) ≡ true → answers_of (plays f cs (world new_runner empty_book)) ≡ bs → value_of c l (plays f cs (world new_runner empty_book)) ≡ x → Case cs bs c l x
+pub found : (cs : List Call) (bs : List (Result Answer Denial)) (c l : ℕ) (x : Option ℤ) (f : ℕ) → is_told (plays f cs (world new_runner empty_book)) ≡ true → answers_of (plays f cs (world new_runner empty_book)) ≡ bs → value_of c l (plays f cs (world new_runner empty_book)) ≡ x → Case cs bs c l x
 found cs bs c l x f t a v = found_in cs bs c l x f (plays f cs (world new_runner empty_book)) refl t a v

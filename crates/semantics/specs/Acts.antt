@@ -3,7 +3,7 @@
 -- What is next is part of the state: a node that is to begin, a node that has just begun, or what a child gave. So every state has one next
 -- act at most, and no act looks for its node. Only the beginning of a node costs a unit; a node that lacks a place or cells is not begun,
 -- at no cost, and the place is looked at first. A state that is not at its end and has no next act is stuck.
-use Rattle.std.specs.Prelude.{ℕ, ◌+◌, true, false, List, [], ◌∷◌, ◌++◌, length, take, replicate, pos, Some, None, ◌==◌, nat_le, nat_lt, slice_set}
+use Rattle.std.specs.Prelude.{ℕ, ◌+◌, true, false, List, [], ◌∷◌, ◌++◌, length, take, replicate, pos, Some, None, Option, ◌==◌, nat_le, nat_lt, slice_set}
 use Rattle.finding.specs.declared.Finding.{Finding}
 use Rattle.book.specs.Meanings.{Meaning}
 use Rattle.node_rules.specs.Rules.{cells_all}
@@ -19,7 +19,6 @@ use Rattle.semantics.specs.declared.import.Event.{Event}
 use Rattle.semantics.specs.declared.progress.Completion.{Completion}
 use Rattle.semantics.specs.declared.progress.Completion.TheVariants.{Ended, Valued, Located, Broke, Continued, Returned}
 use Rattle.semantics.specs.declared.progress.Kept.{Kept}
-use Rattle.semantics.specs.declared.progress.Kept.TheVariants.{Nothing}
 use Rattle.semantics.specs.declared.progress.Open.{Open}
 use Rattle.semantics.specs.declared.progress.Pending.{Pending}
 use Rattle.semantics.specs.declared.progress.Pending.TheVariants.{Begin, Begun, Given}
@@ -74,7 +73,7 @@ first_came r i = elim (kind_at r i == 7) [ true ↦ first_statement r i | false 
 -- Node i as it begins, with the cells of its names from f on.
 abbrev pub begun : Rule → State → ℕ → ℕ → State
 begun r s i f =
-    let o : Open = record { node = i; came = first_came r i; base = length s.cells; frame = f; kept = Nothing } in
+    let o : Open = record { node = i; came = first_came r i; base = length s.cells; frame = f; kept = None } in
     state (o ∷ s.opens) (s.cells ++ takes r i) Begun
 
 -- There are 512 places for open nodes, and 2,048 cells.
@@ -84,14 +83,14 @@ begin_act r s i f = elim (nat_lt (length s.opens) 512) [
   | false ↦ hindered (stopped_at stop.NoPlace i)
 ]
 
--- An open node that has come so far and keeps this.
-abbrev pub onward : Open → ℕ → Kept → Open
+-- An open node that has come so far and keeps this, if anything.
+abbrev pub onward : Open → ℕ → Option Kept → Open
 onward o came kept = record { node = o.node; came = came; base = o.base; frame = o.frame; kept = kept }
 
 -- The turn of the innermost open node, carried out. A node that ends gives its cells back.
 abbrev pub turned : Turn → Open → List Open → List Value → Meaning → List Event → Next
 turned (runs came kept j) o os cs m es = moves (state (onward o came kept ∷ os) cs (Begin j o.frame)) m es
-turned (enters came j) o os cs m es = moves (state (onward o came Nothing ∷ os) cs (Begin j o.base)) m es
+turned (enters came j) o os cs m es = moves (state (onward o came None ∷ os) cs (Begin j o.base)) m es
 turned (ends e) o os cs m es = moves (state os (take o.base cs) (Given e)) m es
 turned (sets a v t) o os cs m es = turned t o os (slice_set cs a v) m es
 turned (deals n e t) o os cs m es = turned t o os cs n (e ∷ es)

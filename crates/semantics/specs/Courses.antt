@@ -3,7 +3,7 @@
 -- A runner has a rule, and is idle or has that rule under way. A new one is idle, with a rule that does nothing. A refused call answers why,
 -- and leaves runner and book as they were. Finishing, stopping and close make it idle and keep its rule. Files and budgets are all that a
 -- course is fed; its events are told the newest first.
-use Rattle.std.specs.Prelude.{◌≡◌, ℕ, List, [], ◌∷◌, ◌++◌, pos, Some, None, codes, Option}
+use Rattle.std.specs.Prelude.{◌≡◌, ℕ, List, [], ◌∷◌, ◌++◌, pos, Some, None, Ok, Err, codes, Option, Result}
 use Rattle.finding.specs.declared.Finding.{Finding}
 use Rattle.book.specs.Meanings.{Meaning}
 use Rattle.checker.specs.declared.Refusal.{Refusal}
@@ -21,7 +21,7 @@ use Rattle.semantics.specs.Rule.{Rule, rule_of}
 use Rattle.semantics.specs.Runs.{Going}
 use Rattle.semantics.specs.Stops as stops
 use Rattle.semantics.specs.declared.answer.Answer.{Answer}
-use Rattle.semantics.specs.declared.answer.Answer.TheVariants.{Done, Refused, Went}
+use Rattle.semantics.specs.declared.answer.Answer.TheVariants.{Done, Went}
 use Rattle.semantics.specs.declared.answer.Denial.{Denial}
 use Rattle.semantics.specs.declared.answer.Denial.TheVariants.{UnderWay, Idle, File}
 use Rattle.semantics.specs.declared.answer.Ending.{Ending}
@@ -52,21 +52,21 @@ ending_place Finished = None
 ending_place Spent = None
 ending_place (Stopped f) = Some f.place
 
-abbrev pub number_of : Answer → Option ℕ
-number_of Done = None
-number_of (Refused d) = Some (refusal_number d)
-number_of (Went how units) = ending_number how
+abbrev pub number_of : Result Answer Denial → Option ℕ
+number_of (Ok Done) = None
+number_of (Ok (Went how units)) = ending_number how
+number_of (Err d) = Some (refusal_number d)
 
-abbrev pub place_of : Answer → Option ℕ
-place_of Done = None
-place_of (Refused d) = Some (refusal_place d)
-place_of (Went how units) = ending_place how
+abbrev pub place_of : Result Answer Denial → Option ℕ
+place_of (Ok Done) = None
+place_of (Ok (Went how units)) = ending_place how
+place_of (Err d) = Some (refusal_place d)
 
 -- Only a go answers units.
-abbrev pub units_of : Answer → Option ℕ
-units_of Done = None
-units_of (Refused d) = None
-units_of (Went how units) = Some units
+abbrev pub units_of : Result Answer Denial → Option ℕ
+units_of (Ok Done) = None
+units_of (Ok (Went how units)) = Some units
+units_of (Err d) = None
 
 -- Why a file is not accepted: its first fault, or where it has none its first violation.
 abbrev pub by_violation : Option (Finding Violation) → Option Refusal
@@ -104,10 +104,10 @@ abbrev pub new_runner : Runner
 new_runner = runner first_rule None
 
 -- A load is refused while a rule is under way; a file that is accepted replaces the rule.
-abbrev pub load_answer : Option State → Option Refusal → Answer
-load_answer (Some s) x = Refused UnderWay
-load_answer None (Some x) = Refused (File x)
-load_answer None None = Done
+abbrev pub load_answer : Option State → Option Refusal → Result Answer Denial
+load_answer (Some s) x = Err UnderWay
+load_answer None (Some x) = Err (File x)
+load_answer None None = Ok Done
 
 abbrev pub load_after : Option State → Option Refusal → List ℕ → Runner → Runner
 load_after (Some s) x file w = w
@@ -115,18 +115,18 @@ load_after None (Some x) file w = w
 load_after None None file w = runner (rule_of file) None
 
 -- A begin is refused while a rule is under way; else the rule is at its origin.
-abbrev pub begin_answer : Option State → Answer
-begin_answer (Some s) = Refused UnderWay
-begin_answer None = Done
+abbrev pub begin_answer : Option State → Result Answer Denial
+begin_answer (Some s) = Err UnderWay
+begin_answer None = Ok Done
 
 abbrev pub begin_after : Option State → Runner → Runner
 begin_after (Some s) w = w
 begin_after None w = runner w.rule (Some (origin w.rule))
 
 -- A close is refused while no rule is under way.
-abbrev pub close_answer : Option State → Answer
-close_answer (Some s) = Done
-close_answer None = Refused Idle
+abbrev pub close_answer : Option State → Result Answer Denial
+close_answer (Some s) = Ok Done
+close_answer None = Err Idle
 
 abbrev pub close_after : Runner → Runner
 close_after w = runner w.rule None
@@ -146,25 +146,25 @@ pub data Call : Type 0 where
   close : Call
 
 -- A call that is no go: its answer and the runner after. The book stays, and nothing passes between.
-pub record Plainly (w : World) (answer : Answer) (after : Runner) (a : Answer) (es : List Event) (v : World) : Type 0 where
+pub record Plainly (w : World) (answer : Result Answer Denial) (after : Runner) (a : Result Answer Denial) (es : List Event) (v : World) : Type 0 where
   pub answers : a ≡ answer
   pub quiet : es ≡ []
   pub leaves : v ≡ world after w.book
 
 -- A go that is not refused: it ends so, after so many units.
-pub record Gone (w : World) (s : State) (budget : ℕ) (a : Answer) (es : List Event) (v : World) : Type 0 where
+pub record Gone (w : World) (s : State) (budget : ℕ) (a : Result Answer Denial) (es : List Event) (v : World) : Type 0 where
   pub how : Ending
   pub units : ℕ
-  pub answers : a ≡ Went how units
+  pub answers : a ≡ Ok (Went how units)
   pub going : Going w.runner.rule budget s w.book how units es v.runner.under_way v.book
   pub keeps : v.runner.rule ≡ w.runner.rule
 
-abbrev pub WentFrom : Option State → World → ℕ → Answer → List Event → World → Type 0
-WentFrom None w budget a es v = Plainly w (Refused Idle) w.runner a es v
+abbrev pub WentFrom : Option State → World → ℕ → Result Answer Denial → List Event → World → Type 0
+WentFrom None w budget a es v = Plainly w (Err Idle) w.runner a es v
 WentFrom (Some s) w budget a es v = Gone w s budget a es v
 
 -- What a call answers in the world w, what passes between rule and book meanwhile, and what it leaves.
-abbrev pub Called : Call → World → Answer → List Event → World → Type 0
+abbrev pub Called : Call → World → Result Answer Denial → List Event → World → Type 0
 Called (load file) w a es v =
     Plainly w (load_answer w.runner.under_way (refused file)) (load_after w.runner.under_way (refused file) file w.runner) a es v
 Called begin w a es v = Plainly w (begin_answer w.runner.under_way) (begin_after w.runner.under_way w.runner) a es v
@@ -172,13 +172,13 @@ Called (go budget) w a es v = WentFrom w.runner.under_way w budget a es v
 Called close w a es v = Plainly w (close_answer w.runner.under_way) (close_after w.runner) a es v
 
 -- Calls one after another, with their answers.
-pub data Course : List Call → World → List Answer → List Event → World → Type 0 where
+pub data Course : List Call → World → List (Result Answer Denial) → List Event → World → Type 0 where
   over : {w : World} → Course [] w [] [] w
-  call : {c : Call} {cs : List Call} {w v u : World} {a : Answer} {bs : List Answer} {es : List Event} (e : List Event)
+  call : {c : Call} {cs : List Call} {w v u : World} {a : Result Answer Denial} {bs : List (Result Answer Denial)} {es : List Event} (e : List Event)
       → Called c w a e v
       → Course cs v bs es u
       → Course (c ∷ cs) w (a ∷ bs) (es ++ e) u
 
 -- A course of a new runner, with a book that means m.
-abbrev pub CourseOf : Meaning → List Call → List Answer → List Event → World → Type 0
+abbrev pub CourseOf : Meaning → List Call → List (Result Answer Denial) → List Event → World → Type 0
 CourseOf m cs bs es w = Course cs (world new_runner m) bs es w

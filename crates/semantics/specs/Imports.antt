@@ -7,6 +7,7 @@ use Rattle.std.specs.Prelude.{ℕ, suc, Bool, true, false, cond, List, [], ◌�
 use Rattle.std.specs.Option.{unwrap_or}
 use Rattle.book.specs.Meanings.{Meaning, put_answer, put_after, get_answer}
 use Rattle.book.specs.declared.fault.BookFault.{BookFault}
+use Rattle.book.specs.declared.spot.Spot.{Spot}
 use Rattle.node_rules.specs.Scopes.{natural}
 use Rattle.node_rules.specs.Tables.{spells}
 use Rattle.semantics.specs.Rule.{Rule, string_of}
@@ -83,21 +84,25 @@ abbrev pub holds : Result (Option ℤ) BookFault → Bool
 holds (Err e) = false
 holds (Ok x) = is_some x
 
+-- A column and a lot that the book has.
+abbrev pub spot_at : ℕ → ℤ → Spot
+spot_at c l = record { column = c; lot = natural l }
+
 -- A put gives 1 if it replaced a value, else 0.
 abbrev pub put_turn : Meaning → ℕ → ℕ → ℤ → ℤ → Result (Unit {0}) BookFault → Turn
 put_turn m i c l v (Err e) = stops (stop.Book e) i
 put_turn m i c l v (Ok u) =
-    deals (put_after m c l v) (Took c (natural l) v) (ends (Valued (one_if (holds (get_answer m c l)))))
+    deals (put_after m c l v) (Took (spot_at c l) v) (ends (Valued (one_if (holds (get_answer m c l)))))
 
 -- A get gives the value, or 0 where there is none.
 abbrev pub get_turn : Meaning → ℕ → ℕ → ℤ → Result (Option ℤ) BookFault → Turn
 get_turn m i c l (Err e) = stops (stop.Book e) i
-get_turn m i c l (Ok x) = deals m (Told c (natural l) x) (ends (Valued (Int (unwrap_or x (pos 0)))))
+get_turn m i c l (Ok x) = deals m (Told (spot_at c l) x) (ends (Valued (Int (unwrap_or x (pos 0)))))
 
 -- A held gives 1 if there is a value, else 0.
 abbrev pub held_turn : Meaning → ℕ → ℕ → ℤ → Result (Option ℤ) BookFault → Turn
 held_turn m i c l (Err e) = stops (stop.Book e) i
-held_turn m i c l (Ok x) = deals m (Knew c (natural l) (is_some x)) (ends (Valued (one_if (is_some x))))
+held_turn m i c l (Ok x) = deals m (Knew (spot_at c l) (is_some x)) (ends (Valued (one_if (is_some x))))
 
 -- The column must be one of the eight.
 abbrev pub on_column : ℕ → Option ℕ → (ℕ → Turn) → Turn

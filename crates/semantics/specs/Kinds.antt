@@ -21,7 +21,7 @@ use Rattle.semantics.specs.declared.value.Operator.{Operator}
 use Rattle.semantics.specs.declared.value.Operator.TheVariants.{Add, Subtract, Multiply, Divide, Remainder, Less, Greater, AtMost, AtLeast, Equal, NotEqual, And, Or}
 use Rattle.semantics.specs.declared.progress.Completion.{Completion}
 use Rattle.semantics.specs.declared.progress.Completion.TheVariants.{Ended, Valued, Located, Broke, Continued, Returned}
-use Rattle.semantics.specs.declared.progress.Kept.TheVariants.{Nothing, Target, Left}
+use Rattle.semantics.specs.declared.progress.Kept.TheVariants.{Target, Left}
 use Rattle.semantics.specs.declared.progress.Open.{Open}
 use Rattle.semantics.specs.declared.stop.Stop.TheVariants as stop
 
@@ -31,7 +31,7 @@ means r o = meant r.nodes o.node
 
 -- Child k is next to begin, and so far the open node has come.
 abbrev pub to_child : Rule → Open → ℕ → ℕ → Turn
-to_child r o came k = runs came Nothing (child r o.node k)
+to_child r o came k = runs came None (child r o.node k)
 
 -- The cell of the scalar or parameter d, and what it holds.
 abbrev pub scalar_turn : Rule → Open → List Value → ℕ → (ℕ → Value → Turn) → Turn
@@ -58,7 +58,7 @@ len_turn r d = only_if (kind_at r d == 4) (ends (Valued (Int (node r d).value)))
 
 -- A block begins the child that is next, and ends behind the last.
 abbrev pub block_on : Rule → Open → Turn
-block_on r o = elim (nat_lt o.came (end r o.node)) [ true ↦ runs (end r o.came) Nothing o.came | false ↦ ends Ended ]
+block_on r o = elim (nat_lt o.came (end r o.node)) [ true ↦ runs (end r o.came) None o.came | false ↦ ends Ended ]
 
 abbrev pub block_turn : Rule → Open → Completion → Turn
 block_turn r o e = on_end e (block_on r o) (ends Broke) (ends Continued)
@@ -66,7 +66,7 @@ block_turn r o e = on_end e (block_on r o) (ends Broke) (ends Continued)
 -- An assignment has its location (1), then its expression (2), and then stores.
 abbrev pub assignment_turn : Rule → Open → List Value → Completion → Turn
 assignment_turn r o cells e = elim (o.came == 1) [
-  | true ↦ on_cell e (λ a old. runs 2 (Target a) (child r o.node 1))
+  | true ↦ on_cell e (λ a old. runs 2 (Some (Target a)) (child r o.node 1))
   | false ↦ on_value e (λ v. on_target o.kept (λ a. on_some (slice_get cells a) (λ old.
       on_computed o.node (assigned (node r o.node).tag old v) (λ w. sets a w (ends Ended)))))
 ]
@@ -112,7 +112,7 @@ while_turn r o e = elim (o.came == 1) [
 
 -- A binary operator keeps its left operand and comes to the right one.
 abbrev pub right_on : Rule → Open → Value → Turn
-right_on r o v = runs 2 (Left v) (child r o.node 1)
+right_on r o v = runs 2 (Some (Left v)) (child r o.node 1)
 
 -- `&&` and `||` end where the left operand decides.
 abbrev pub left_turn : Rule → Open → Option Operator → Value → Turn

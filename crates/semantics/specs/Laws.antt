@@ -1,11 +1,12 @@
 -- What follows from the definitions of runs for every rule, accepted or not.
-use Rattle.std.specs.Prelude.{◌≡◌, ℕ, Bool, true, false, List, [], Some, Option}
+use Rattle.std.specs.Prelude.{◌≡◌, ℕ, Bool, true, false, List, [], Some, Option, Result}
 use Rattle.book.specs.Meanings.{Meaning}
 use Rattle.semantics.specs.Acts.{State, Next, begins, hindered, moves, halts, finished, stuck, next, origin}
 use Rattle.semantics.specs.Courses.{World, Call, Course, CourseOf}
 use Rattle.semantics.specs.Rule.{Rule}
 use Rattle.semantics.specs.Runs.{Going}
 use Rattle.semantics.specs.declared.answer.Answer.{Answer}
+use Rattle.semantics.specs.declared.answer.Denial.{Denial}
 use Rattle.semantics.specs.declared.answer.Ending.{Ending}
 use Rattle.semantics.specs.declared.answer.Ending.TheVariants.{Spent}
 use Rattle.semantics.specs.declared.import.Event.{Event}
@@ -30,7 +31,7 @@ GoOne =
     → Going r budget s m how' units' es' z' n'
     → SameGo how how' units units' es es' z z' n n'
 
-pub record SameCourse (bs bs' : List Answer) (es es' : List Event) (v v' : World) : Type 0 where
+pub record SameCourse (bs bs' : List (Result Answer Denial)) (es es' : List Event) (v v' : World) : Type 0 where
   pub answers : bs ≡ bs'
   pub events : es ≡ es'
   pub world : v ≡ v'
@@ -38,7 +39,7 @@ pub record SameCourse (bs bs' : List Answer) (es es' : List Event) (v v' : World
 -- A course of calls has one outcome.
 abbrev pub CourseOne : Type 0
 CourseOne =
-    (cs : List Call) (w : World) (bs bs' : List Answer) (es es' : List Event) (v v' : World)
+    (cs : List Call) (w : World) (bs bs' : List (Result Answer Denial)) (es es' : List Event) (v v' : World)
     → Course cs w bs es v
     → Course cs w bs' es' v'
     → SameCourse bs bs' es es' v v'
@@ -69,7 +70,7 @@ SpentBegins =
 -- So it is whenever a rule is under way after calls of a new runner.
 abbrev pub UnderWayBegins : Type 0
 UnderWayBegins =
-    (m : Meaning) (cs : List Call) (bs : List Answer) (es : List Event) (w : World) (s : State)
+    (m : Meaning) (cs : List Call) (bs : List (Result Answer Denial)) (es : List Event) (w : World) (s : State)
     → CourseOf m cs bs es w
     → w.runner.under_way ≡ Some s
     → Beginning w.runner.rule s

@@ -2,23 +2,23 @@
 --
 -- A turn says only what the node itself does; `Acts` carries it out on the state. Each of the small words asks for something of a child or
 -- of what was kept, and there is no turn where that is not so.
-use Rattle.std.specs.Prelude.{ℕ, Bool, true, false, cond, ℤ, Some, None, Option}
+use Rattle.std.specs.Prelude.{ℕ, Bool, true, false, cond, ℤ, Some, None, Ok, Err, Option, Result}
 use Rattle.book.specs.Meanings.{Meaning}
 use Rattle.semantics.specs.declared.value.Value.{Value}
 use Rattle.semantics.specs.declared.value.Value.TheVariants.{Int, Long, Bool as Truth, Text}
-use Rattle.semantics.specs.declared.value.Computed.{Computed}
-use Rattle.semantics.specs.declared.value.Computed.TheVariants.{Made, ZeroDivisor, IllTyped}
+use Rattle.semantics.specs.declared.value.Misfit.{Misfit}
+use Rattle.semantics.specs.declared.value.Misfit.TheVariants.{ZeroDivisor, IllTyped}
 use Rattle.semantics.specs.declared.import.Event.{Event}
 use Rattle.semantics.specs.declared.progress.Completion.{Completion}
 use Rattle.semantics.specs.declared.progress.Completion.TheVariants.{Ended, Valued, Located, Broke, Continued, Returned}
 use Rattle.semantics.specs.declared.progress.Kept.{Kept}
-use Rattle.semantics.specs.declared.progress.Kept.TheVariants.{Nothing, Target, Left}
+use Rattle.semantics.specs.declared.progress.Kept.TheVariants.{Target, Left}
 use Rattle.semantics.specs.declared.stop.Stop.{Stop}
 use Rattle.semantics.specs.declared.stop.Stop.TheVariants as stop
 
 pub data Turn : Type 0 where
-  -- it has come so far, keeps this, and this child is next to begin
-  runs : ℕ → Kept → ℕ → Turn
+  -- it has come so far, keeps this, if anything, and this child is next to begin
+  runs : ℕ → Option Kept → ℕ → Turn
   -- a call has come so far, and this body, whose names have the call's cells, is next to begin
   enters : ℕ → ℕ → Turn
   -- it ends
@@ -81,21 +81,21 @@ on_int (Long x) f = no_turn
 on_int (Truth b) f = no_turn
 on_int (Text t) f = no_turn
 
-abbrev pub on_target : Kept → (ℕ → Turn) → Turn
-on_target Nothing f = no_turn
-on_target (Target a) f = f a
-on_target (Left v) f = no_turn
+abbrev pub on_target : Option Kept → (ℕ → Turn) → Turn
+on_target None f = no_turn
+on_target (Some (Target a)) f = f a
+on_target (Some (Left v)) f = no_turn
 
-abbrev pub on_left : Kept → (Value → Turn) → Turn
-on_left Nothing f = no_turn
-on_left (Target a) f = no_turn
-on_left (Left v) f = f v
+abbrev pub on_left : Option Kept → (Value → Turn) → Turn
+on_left None f = no_turn
+on_left (Some (Target a)) f = no_turn
+on_left (Some (Left v)) f = f v
 
 -- What the operator of node i made; a zero divisor stops there.
-abbrev pub on_computed : ℕ → Computed → (Value → Turn) → Turn
-on_computed i (Made v) f = f v
-on_computed i ZeroDivisor f = stops stop.ZeroDivisor i
-on_computed i IllTyped f = no_turn
+abbrev pub on_computed : ℕ → Result Value Misfit → (Value → Turn) → Turn
+on_computed i (Ok v) f = f v
+on_computed i (Err ZeroDivisor) f = stops stop.ZeroDivisor i
+on_computed i (Err IllTyped) f = no_turn
 
 -- Something that must be there.
 abbrev pub on_some : {A : Type 0} → Option A → (A → Turn) → Turn

@@ -3,7 +3,7 @@
 -- A value carries its type, so that an operand of a wrong type is seen where it is used: the operator is ill-typed there. A text, the number
 -- of a string, has no type and no operator. Int and long wrap at 32 and 64 bits. Division rounds toward zero and a remainder has the sign of
 -- the dividend; the lowest number divided by -1 wraps to itself, with remainder 0.
-use Rattle.std.specs.Prelude.{ℕ, ◌-◌, Bool, true, false, cond, not, List, [], ◌∷◌, ◌++◌, replicate, ℤ, pos, negsuc, ◌+ℤ◌, ◌-ℤ◌, ◌*ℤ◌, neg_ℤ, Some, None, Option, ◌==◌, int_div, int_le, int_lt, int_rem}
+use Rattle.std.specs.Prelude.{ℕ, ◌-◌, Bool, true, false, cond, not, List, [], ◌∷◌, ◌++◌, replicate, ℤ, pos, negsuc, ◌+ℤ◌, ◌-ℤ◌, ◌*ℤ◌, neg_ℤ, Some, None, Ok, Err, Option, Result, ◌==◌, int_div, int_le, int_lt, int_rem}
 use Rattle.std.specs.Int.{int_wrap, Width, w32, w64}
 use Rattle.std.specs.List.{slice_get}
 use Rattle.nodes.specs.declared.node.Node.{Node}
@@ -16,8 +16,8 @@ use Rattle.semantics.specs.declared.value.Value.{Value}
 use Rattle.semantics.specs.declared.value.Value.TheVariants.{Int, Long, Bool as Truth, Text}
 use Rattle.semantics.specs.declared.value.Operator.{Operator}
 use Rattle.semantics.specs.declared.value.Operator.TheVariants.{Add, Subtract, Multiply, Divide, Remainder, Less, Greater, AtMost, AtLeast, Equal, NotEqual, And, Or}
-use Rattle.semantics.specs.declared.value.Computed.{Computed}
-use Rattle.semantics.specs.declared.value.Computed.TheVariants.{Made, ZeroDivisor, IllTyped}
+use Rattle.semantics.specs.declared.value.Misfit.{Misfit}
+use Rattle.semantics.specs.declared.value.Misfit.TheVariants.{ZeroDivisor, IllTyped}
 
 -- The type that a value carries; a text has none.
 abbrev pub carried : Value → Option Ty
@@ -92,85 +92,85 @@ same_truth true b = b
 same_truth false b = not b
 
 -- Two whole numbers of width w, where `make` turns a number into a value of their type.
-abbrev pub on_numbers : Width → (ℤ → Value) → Operator → ℤ → ℤ → Computed
-on_numbers w make Add x y = Made (make (int_wrap w (x +ℤ y)))
-on_numbers w make Subtract x y = Made (make (int_wrap w (x -ℤ y)))
-on_numbers w make Multiply x y = Made (make (int_wrap w (x *ℤ y)))
-on_numbers w make Divide x y = cond (is_zero y) ZeroDivisor (Made (make (int_wrap w (int_div x y))))
-on_numbers w make Remainder x y = cond (is_zero y) ZeroDivisor (Made (make (int_rem x y)))
-on_numbers w make Less x y = Made (Truth (int_lt x y))
-on_numbers w make Greater x y = Made (Truth (int_lt y x))
-on_numbers w make AtMost x y = Made (Truth (int_le x y))
-on_numbers w make AtLeast x y = Made (Truth (int_le y x))
-on_numbers w make Equal x y = Made (Truth (same_number x y))
-on_numbers w make NotEqual x y = Made (Truth (not (same_number x y)))
-on_numbers w make And x y = IllTyped
-on_numbers w make Or x y = IllTyped
+abbrev pub on_numbers : Width → (ℤ → Value) → Operator → ℤ → ℤ → Result Value Misfit
+on_numbers w make Add x y = Ok (make (int_wrap w (x +ℤ y)))
+on_numbers w make Subtract x y = Ok (make (int_wrap w (x -ℤ y)))
+on_numbers w make Multiply x y = Ok (make (int_wrap w (x *ℤ y)))
+on_numbers w make Divide x y = cond (is_zero y) (Err ZeroDivisor) (Ok (make (int_wrap w (int_div x y))))
+on_numbers w make Remainder x y = cond (is_zero y) (Err ZeroDivisor) (Ok (make (int_rem x y)))
+on_numbers w make Less x y = Ok (Truth (int_lt x y))
+on_numbers w make Greater x y = Ok (Truth (int_lt y x))
+on_numbers w make AtMost x y = Ok (Truth (int_le x y))
+on_numbers w make AtLeast x y = Ok (Truth (int_le y x))
+on_numbers w make Equal x y = Ok (Truth (same_number x y))
+on_numbers w make NotEqual x y = Ok (Truth (not (same_number x y)))
+on_numbers w make And x y = Err IllTyped
+on_numbers w make Or x y = Err IllTyped
 
 -- Two truths. `&&` and `||` come to their right operand only where the left one does not decide, and then the right one does.
-abbrev pub on_truths : Operator → Bool → Bool → Computed
-on_truths Add a b = IllTyped
-on_truths Subtract a b = IllTyped
-on_truths Multiply a b = IllTyped
-on_truths Divide a b = IllTyped
-on_truths Remainder a b = IllTyped
-on_truths Less a b = IllTyped
-on_truths Greater a b = IllTyped
-on_truths AtMost a b = IllTyped
-on_truths AtLeast a b = IllTyped
-on_truths Equal a b = Made (Truth (same_truth a b))
-on_truths NotEqual a b = Made (Truth (not (same_truth a b)))
-on_truths And a b = Made (Truth b)
-on_truths Or a b = Made (Truth b)
+abbrev pub on_truths : Operator → Bool → Bool → Result Value Misfit
+on_truths Add a b = Err IllTyped
+on_truths Subtract a b = Err IllTyped
+on_truths Multiply a b = Err IllTyped
+on_truths Divide a b = Err IllTyped
+on_truths Remainder a b = Err IllTyped
+on_truths Less a b = Err IllTyped
+on_truths Greater a b = Err IllTyped
+on_truths AtMost a b = Err IllTyped
+on_truths AtLeast a b = Err IllTyped
+on_truths Equal a b = Ok (Truth (same_truth a b))
+on_truths NotEqual a b = Ok (Truth (not (same_truth a b)))
+on_truths And a b = Ok (Truth b)
+on_truths Or a b = Ok (Truth b)
 
 -- Both operands are of one type.
-abbrev pub operate : Operator → Value → Value → Computed
+abbrev pub operate : Operator → Value → Value → Result Value Misfit
 operate o (Int x) (Int y) = on_numbers w32 Int o x y
-operate o (Int x) (Long y) = IllTyped
-operate o (Int x) (Truth y) = IllTyped
-operate o (Int x) (Text y) = IllTyped
-operate o (Long x) (Int y) = IllTyped
+operate o (Int x) (Long y) = Err IllTyped
+operate o (Int x) (Truth y) = Err IllTyped
+operate o (Int x) (Text y) = Err IllTyped
+operate o (Long x) (Int y) = Err IllTyped
 operate o (Long x) (Long y) = on_numbers w64 Long o x y
-operate o (Long x) (Truth y) = IllTyped
-operate o (Long x) (Text y) = IllTyped
-operate o (Truth x) (Int y) = IllTyped
-operate o (Truth x) (Long y) = IllTyped
+operate o (Long x) (Truth y) = Err IllTyped
+operate o (Long x) (Text y) = Err IllTyped
+operate o (Truth x) (Int y) = Err IllTyped
+operate o (Truth x) (Long y) = Err IllTyped
 operate o (Truth x) (Truth y) = on_truths o x y
-operate o (Truth x) (Text y) = IllTyped
-operate o (Text x) b = IllTyped
+operate o (Truth x) (Text y) = Err IllTyped
+operate o (Text x) b = Err IllTyped
 
-abbrev pub by_operator : Option Operator → Value → Value → Computed
-by_operator None a b = IllTyped
+abbrev pub by_operator : Option Operator → Value → Value → Result Value Misfit
+by_operator None a b = Err IllTyped
 by_operator (Some o) a b = operate o a b
 
 -- A step: one more (tag 0) or one less (tag 1), of the same type.
-abbrev pub stepped : ℕ → Value → Computed
+abbrev pub stepped : ℕ → Value → Result Value Misfit
 stepped tag (Int x) = by_operator (operator tag) (Int x) (Int (pos 1))
 stepped tag (Long x) = by_operator (operator tag) (Long x) (Long (pos 1))
-stepped tag (Truth b) = IllTyped
-stepped tag (Text t) = IllTyped
+stepped tag (Truth b) = Err IllTyped
+stepped tag (Text t) = Err IllTyped
 
 -- A unary node: minus (tag 0) of a number, not (tag 1) of a truth.
-abbrev pub inverted : ℕ → Value → Computed
-inverted tag (Int x) = cond (tag == 0) (Made (Int (int_wrap w32 (neg_ℤ x)))) IllTyped
-inverted tag (Long x) = cond (tag == 0) (Made (Long (int_wrap w64 (neg_ℤ x)))) IllTyped
-inverted tag (Truth b) = cond (tag == 0) IllTyped (Made (Truth (not b)))
-inverted tag (Text t) = IllTyped
+abbrev pub inverted : ℕ → Value → Result Value Misfit
+inverted tag (Int x) = cond (tag == 0) (Ok (Int (int_wrap w32 (neg_ℤ x)))) (Err IllTyped)
+inverted tag (Long x) = cond (tag == 0) (Ok (Long (int_wrap w64 (neg_ℤ x)))) (Err IllTyped)
+inverted tag (Truth b) = cond (tag == 0) (Err IllTyped) (Ok (Truth (not b)))
+inverted tag (Text t) = Err IllTyped
 
 -- What an int is of a long: its low 32 bits, read as a signed number.
 unfoldable pub low_32 : ℤ → ℤ
 low_32 x = int_wrap w32 x
 
 -- A cast, to int (tag 1) or to long (tag 2).
-abbrev pub converted : ℕ → Value → Computed
-converted tag (Int x) = Made (cond (tag == 1) (Int x) (Long x))
-converted tag (Long x) = Made (cond (tag == 1) (Int (low_32 x)) (Long x))
-converted tag (Truth b) = IllTyped
-converted tag (Text t) = IllTyped
+abbrev pub converted : ℕ → Value → Result Value Misfit
+converted tag (Int x) = Ok (cond (tag == 1) (Int x) (Long x))
+converted tag (Long x) = Ok (cond (tag == 1) (Int (low_32 x)) (Long x))
+converted tag (Truth b) = Err IllTyped
+converted tag (Text t) = Err IllTyped
 
 -- What an assignment stores: `=` (tag 0) a new value of the old one's type, another what its operator makes of the old one and the new.
-abbrev pub assigned : ℕ → Value → Value → Computed
+abbrev pub assigned : ℕ → Value → Value → Result Value Misfit
 assigned tag old new = elim (tag == 0) [
-  | true ↦ cond (is_of (carried old) new) (Made new) IllTyped
+  | true ↦ cond (is_of (carried old) new) (Ok new) (Err IllTyped)
   | false ↦ by_operator (operator (tag - 1)) old new
 ]

@@ -24,12 +24,11 @@ pub enum Denial {
     File(Refusal),
 }
 
-/// What a call answers.
+/// What a call answers that is not refused.
 #[derive(Clone, Copy)]
 pub enum Answer {
     /// a load, a begin or a close was done
     Done,
-    Refused(Denial),
     /// a go ended so, after so many units
-    Went(Ending, u32),
+    Went { how: Ending, units: u32 },
 }

@@ -1,11 +1,13 @@
 // Why a run stops before its end.
+ghost use Rattle.std.specs.Prelude.{◌≡◌};
 ghost use Rattle.semantics.specs.Stops.{number_of};
+ghost use Rattle.semantics.specs.declared.stop.Stop.TheVariants.{Book};
 
 use book::fault::BookFault;
 use finding::Numbered;
 
 /// Why a run stops, in the order of the numbers.
-#[derive(Clone, Copy)]
+#[derive(Clone, Copy, PartialEq, Eq, Debug)]
 pub enum Stop {
     /// an array has no element of this index
     Index,
@@ -27,9 +29,18 @@ pub enum Stop {
     Book(BookFault),
 }
 
+impl From<BookFault> for Stop {
+    ghost from_gives = { λ fault stop. stop ≡ Book fault };
+
+    fn from(fault: BookFault) -> Stop {
+        Stop::Book(fault)
+    }
+}
+
 impl Numbered for Stop {
     ghost number = { number_of };
 
+    // Kept: the fault of a book goes with its stop, so the numbers cannot be the enum's own.
     fn number_of(&self) -> u32 {
         match self {
             Stop::Index => 51,

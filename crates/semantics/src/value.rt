@@ -1,7 +1,7 @@
 // Values, and what operators make of them.
 
 /// A value carries its type. A text is the number of a string.
-#[derive(Clone, Copy)]
+#[derive(Clone, Copy, PartialEq, Eq, Debug)]
 pub enum Value {
     Int(i32),
     Long(i64),
@@ -10,7 +10,7 @@ pub enum Value {
 }
 
 /// The operators of a binary node, in the order of their tags from 0.
-#[derive(Clone, Copy)]
+#[derive(Clone, Copy, PartialEq, Eq, Debug)]
 pub enum Operator {
     Add,
     Subtract,
@@ -27,10 +27,9 @@ pub enum Operator {
     Or,
 }
 
-/// What an operator makes of its operands.
-#[derive(Clone, Copy)]
-pub enum Computed {
-    Made(Value),
+/// Why an operator makes no value of its operands.
+#[derive(Clone, Copy, PartialEq, Eq, Debug)]
+pub enum Misfit {
     /// a division by zero
     ZeroDivisor,
     /// an operand of a type that the operator does not have

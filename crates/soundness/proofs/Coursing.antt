@@ -1,5 +1,5 @@
 -- In a course of calls from a new runner the rule is always one that was checked, and its state one that it has reached.
-use Rattle.std.proofs.Common.{◌≡◌, ℕ, List, Some, None, Option, sym, refl, ◌∙◌, subst, arith}
+use Rattle.std.proofs.Common.{◌≡◌, ℕ, List, Some, None, Option, sym, refl, ◌∙◌, subst, arith, Result}
 use Rattle.book.specs.Meanings.{Meaning}
 use Rattle.checker.specs.declared.Refusal.{Refusal}
 use Rattle.finding.specs.declared.Finding.{Finding}
@@ -20,6 +20,7 @@ use Rattle.semantics.specs.Courses.{Runner, runner, World, Call, load, begin, go
 use Rattle.semantics.specs.Rule.{Rule, rule_of}
 use Rattle.semantics.specs.Runs.{Acts, left_by}
 use Rattle.semantics.specs.declared.answer.Answer.{Answer}
+use Rattle.semantics.specs.declared.answer.Denial.{Denial}
 use Rattle.semantics.specs.declared.answer.Ending.{Ending}
 use Rattle.semantics.specs.declared.answer.Ending.TheVariants.{Finished, Spent, Stopped}
 use Rattle.semantics.specs.declared.import.Event.{Event}
@@ -85,7 +86,7 @@ module _ (accepted : (file : List ℕ) → first_fault file ≡ None → first_v
         reached = λ s h. let q : origin w.rule ≡ s = cc in subst (Reached w.rule) q set_out;
       }
 
-  went : (z : Option State) (w v : World) (budget : ℕ) (a : Answer) (es : List Event) → z ≡ w.runner.under_way → WentFrom z w budget a es v → GoodRunner w.runner → GoodRunner v.runner
+  went : (z : Option State) (w v : World) (budget : ℕ) (a : Result Answer Denial) (es : List Event) → z ≡ w.runner.under_way → WentFrom z w budget a es v → GoodRunner w.runner → GoodRunner v.runner
   went None w v budget a es e c g = subst (λ (u : World). GoodRunner u.runner) (sym c.leaves) g
   went (Some s) w v budget a es e c g =
       let k = c.keeps in
@@ -97,16 +98,16 @@ module _ (accepted : (file : List ℕ) → first_fault file ≡ None → first_v
             (left_reached w.runner.rule c.how c.going.last t (went_on (g.reached s (sym e)) c.going.acts) (sym c.going.leaves ∙ h));
       }
 
-  plainly : (w v : World) (x : Answer) (after : Runner) (a : Answer) (es : List Event) → Plainly w x after a es v → GoodRunner after → GoodRunner v.runner
+  plainly : (w v : World) (x : Result Answer Denial) (after : Runner) (a : Result Answer Denial) (es : List Event) → Plainly w x after a es v → GoodRunner after → GoodRunner v.runner
   plainly w v x after a es p g = subst (λ (u : World). GoodRunner u.runner) (sym p.leaves) g
 
-  called : (c : Call) (w v : World) (a : Answer) (es : List Event) → Called c w a es v → GoodRunner w.runner → GoodRunner v.runner
+  called : (c : Call) (w v : World) (a : Result Answer Denial) (es : List Event) → Called c w a es v → GoodRunner w.runner → GoodRunner v.runner
   called (load file) w v a es h g = plainly w v _ _ a es h (loaded w.runner.under_way (refused file) file w.runner refl g)
   called begin w v a es h g = plainly w v _ _ a es h (begun w.runner.under_way w.runner g)
   called (go budget) w v a es h g = went w.runner.under_way w v budget a es refl h g
   called close w v a es h g = plainly w v _ _ a es h (idle w.runner.rule g.type g.checked)
 
-  coursed : {cs : List Call} {w v : World} {bs : List Answer} {es : List Event} → Course cs w bs es v → GoodRunner w.runner → GoodRunner v.runner
+  coursed : {cs : List Call} {w v : World} {bs : List (Result Answer Denial)} {es : List Event} → Course cs w bs es v → GoodRunner w.runner → GoodRunner v.runner
   coursed over g = g
   coursed (call {c = c} {w = w} {v = v} {a = a} e h rest) g = coursed rest (called c w v a e h g)
 
@@ -116,7 +117,7 @@ module _ (accepted : (file : List ℕ) → first_fault file ≡ None → first_v
       idle first_rule a.0 (subst (λ (r : Rule). Checked r a.0) smallest_rule a.1)
 
   -- no rule under way is stuck, after any calls
-  pub course_never_stuck : (m₀ : Meaning) (cs : List Call) (bs : List Answer) (es : List Event) (w : World) (s : State) → CourseOf m₀ cs bs es w → w.runner.under_way ≡ Some s → (m n : Meaning) (units : ℕ) (events : List Event) (t : State) → Acts w.runner.rule s m units events t n → next w.runner.rule t n ≡ stuck → ⊥
+  pub course_never_stuck : (m₀ : Meaning) (cs : List Call) (bs : List (Result Answer Denial)) (es : List Event) (w : World) (s : State) → CourseOf m₀ cs bs es w → w.runner.under_way ≡ Some s → (m n : Meaning) (units : ℕ) (events : List Event) (t : State) → Acts w.runner.rule s m units events t n → next w.runner.rule t n ≡ stuck → ⊥
   course_never_stuck m₀ cs bs es w s k u m n units events t acts h =
       let d = coursed k new_good in
       never_stuck_later w.runner.rule d.type d.checked t (went_on (d.reached s u) acts) n h

@@ -1,5 +1,5 @@
 -- Operators on operands of the right type never go IllTyped, and give a value of their type.
-use Rattle.std.proofs.Common.{◌≡◌, ℕ, ◌-◌, ◌<◌, Bool, true, false, cond, eqb, ◌⊎◌, ℤ, Some, None, Option, sym, refl, ◌∙◌, inl, inr, arith, w32, w64}
+use Rattle.std.proofs.Common.{◌≡◌, ℕ, ◌-◌, ◌<◌, Bool, true, false, cond, eqb, ◌⊎◌, ℤ, Some, None, Option, sym, refl, ◌∙◌, inl, inr, arith, w32, w64, Ok, Err, Result}
 use mir.Syntax.{Width}
 use Rattle.std.proofs.lemmas.Bool.{true≢false}
 use Rattle.std.proofs.lemmas.Bool.Decides.{nat_tests}
@@ -10,14 +10,14 @@ use Rattle.semantics.specs.declared.value.Value.{Value}
 use Rattle.semantics.specs.declared.value.Value.TheVariants.{Int, Long, Bool as Truth, Text}
 use Rattle.semantics.specs.declared.value.Operator.{Operator}
 use Rattle.semantics.specs.declared.value.Operator.TheVariants.{Add, Subtract, Multiply, Divide, Remainder, Less, Greater, AtMost, AtLeast, Equal, NotEqual, And, Or}
-use Rattle.semantics.specs.declared.value.Computed.{Computed}
-use Rattle.semantics.specs.declared.value.Computed.TheVariants.{Made, ZeroDivisor, IllTyped}
+use Rattle.semantics.specs.declared.value.Misfit.{Misfit}
+use Rattle.semantics.specs.declared.value.Misfit.TheVariants.{ZeroDivisor, IllTyped}
 use Rattle.soundness.specs.Checked.{number_type, truth_type, operator_type, IsNumber}
 
-abbrev pub Computes : Computed → Option Ty → Type 0
-Computes (Made v) t = is_of t v ≡ true
-Computes ZeroDivisor t = Unit {0}
-Computes IllTyped t = ⊥
+abbrev pub Computes : Result Value Misfit → Option Ty → Type 0
+Computes (Ok v) t = is_of t v ≡ true
+Computes (Err ZeroDivisor) t = Unit {0}
+Computes (Err IllTyped) t = ⊥
 
 no : {A : Type 0} → ◌≡◌ {A = Bool} false true → A
 no h = absurd (true≢false (sym h))
@@ -32,7 +32,7 @@ same s m h = cc
 fits_as : (s m : Ty) (v : Value) → ◌≡◌ {A = Option Ty} (Some s) (Some m) → is_of (Some s) v ≡ true → is_of (Some m) v ≡ true
 fits_as s m v h f = rw (← (same s m h)) f
 
-divided : (b : Bool) (m : Ty) (v : Value) → is_of (Some m) v ≡ true → Computes (cond b ZeroDivisor (Made v)) (Some m)
+divided : (b : Bool) (m : Ty) (v : Value) → is_of (Some m) v ≡ true → Computes (cond b (Err ZeroDivisor) (Ok v)) (Some m)
 divided true m v f = tt
 divided false m v f = f
 
@@ -115,7 +115,7 @@ pub like_same : (s : Ty) (u v : Value) → is_of (Some s) u ≡ true → is_of (
 like_same s u v f g t h = let e : Some s ≡ t = sym (carries_fits s u f) ∙ fits_carried t u h in rw (← e) g
 
 -- What an assignment stores has the location's type.
-stored_plain : (s : Ty) (b : Bool) (v : Value) → b ≡ true → is_of (Some s) v ≡ true → Computes (cond b (Made v) IllTyped) (Some s)
+stored_plain : (s : Ty) (b : Bool) (v : Value) → b ≡ true → is_of (Some s) v ≡ true → Computes (cond b (Ok v) (Err IllTyped)) (Some s)
 stored_plain s true v e g = g
 stored_plain s false v e g = no e
 

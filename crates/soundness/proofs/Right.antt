@@ -1,5 +1,5 @@
 -- The turns of literals, scalar locations, blocks, ifs, binary operators and assignments are right.
-use Rattle.std.proofs.Common.{◌≡◌, ℕ, suc, ◌+◌, ◌<◌, ◌≤◌, Bool, true, false, eqb, ltb, ◌⊎◌, List, length, Some, Option, sym, refl, ap, ◌∙◌, inl, inr, add-zero, arith, length-set}
+use Rattle.std.proofs.Common.{◌≡◌, ℕ, suc, ◌+◌, ◌<◌, ◌≤◌, Bool, true, false, eqb, ltb, ◌⊎◌, List, length, Some, None, Option, sym, refl, ap, ◌∙◌, inl, inr, add-zero, arith, length-set}
 use Rattle.std.proofs.lemmas.Bool.{ltb-true}
 use Rattle.std.proofs.lemmas.Bool.Decides.{nat_tests}
 use Rattle.book.specs.Meanings.{Meaning}
@@ -20,7 +20,7 @@ use Rattle.semantics.specs.declared.value.Operator.{Operator}
 use Rattle.semantics.specs.declared.value.Operator.TheVariants.{Add, Subtract, Multiply, Divide, Remainder, Less, Greater, AtMost, AtLeast, Equal, NotEqual, And, Or}
 use Rattle.semantics.specs.declared.progress.Completion.{Completion}
 use Rattle.semantics.specs.declared.progress.Completion.TheVariants.{Ended, Valued, Located, Broke, Continued}
-use Rattle.semantics.specs.declared.progress.Kept.TheVariants.{Nothing, Target, Left}
+use Rattle.semantics.specs.declared.progress.Kept.TheVariants.{Target, Left}
 use Rattle.semantics.specs.declared.progress.Open.{Open}
 use Rattle.soundness.specs.Checked.{offset, looped, operator_type, Inner, GoodBlock, GoodAssignment, GoodIf, GoodLocation, GoodBinary}
 use Rattle.soundness.proofs.Safe.{Holds, Gives, WaitsBy}
@@ -60,12 +60,12 @@ location_starts r type cs m o g s =
 
 -- ── A block ──
 
-block_next : (r : Rule) (type : ℕ → Option Ty) (cs : List Value) (o : Open) (c k : ℕ) → GoodBlock r o.node → Stands r cs o → o.base ≡ o.frame + offset r o.node → c ≡ child r o.node k → c < end r o.node → first_statement r o.node ≤ c → Right kind.Block r type (runs (end r c) Nothing c) cs o
+block_next : (r : Rule) (type : ℕ → Option Ty) (cs : List Value) (o : Open) (c k : ℕ) → GoodBlock r o.node → Stands r cs o → o.base ≡ o.frame + offset r o.node → c ≡ child r o.node k → c < end r o.node → first_statement r o.node ≤ c → Right kind.Block r type (runs (end r c) None c) cs o
 block_next r type cs o c k g s v e lt le =
     let at : child r o.node k < end r o.node = rw e at lt in
     let there : has r o.node k ≡ true = grind (arith, nat_tests) in
     let behind : first_statement r o.node ≤ child r o.node k = rw e at le in
-    rw e (to_inner kind.Block r type (end r (child r o.node k)) Nothing _ cs o (g.inner k there behind) v s (record { index = k; came = refl; has = there; child = refl; behind = behind }, refl))
+    rw e (to_inner kind.Block r type (end r (child r o.node k)) None _ cs o (g.inner k there behind) v s (record { index = k; came = refl; has = there; child = refl; behind = behind }, refl))
 
 -- where the block has come to one of its children
 abbrev Comes : Rule → ℕ → ℕ → Type 0
@@ -102,7 +102,7 @@ block_goes_on r type cs m o l j f e g s v w y =
 -- ── An if ──
 
 pub if_starts : (r : Rule) (type : ℕ → Option Ty) (cs : List Value) (m : Meaning) (o : Open) → GoodIf r type o.node → Stands r cs o → Right kind.If r type (started kind.If r o cs m) cs o
-if_starts r type cs m o g s = to_expression kind.If r type 1 Nothing _ ty.Bool cs o g.test s (inl (refl, refl), refl)
+if_starts r type cs m o g s = to_expression kind.If r type 1 None _ ty.Bool cs o g.test s (inl (refl, refl), refl)
 
 if_ends : (r : Rule) (type : ℕ → Option Ty) (cs : List Value) (o : Open) (l j : ℕ) (e : Completion) → Inner r o.node j → (looped r j ≡ true → looped r o.node ≡ true) → Stands r cs o → Gives r type cs l j e → Right kind.If r type (on_end e (ends Ended) (ends Broke) (ends Continued)) cs o
 if_ends r type cs o l j e x b s y = let u = s.used in end_right kind.If r type l j cs o e _ _ _ x y (tt, omega arith) (λ h. (b h, omega arith)) (λ h. (b h, omega arith)) (λ z h. (h, omega arith))
@@ -112,9 +112,9 @@ if_goes_on r type cs m o l j f e g s v (inl w, q) y =
     let u = s.used in
     let one : eqb o.came 1 ≡ true = rw w.0 refl in
     rw (one, if_turn) (value_right kind.If r type l _ ty.Bool cs o e _ g.test (rw w.1 at y) (λ b h. truth_right kind.If r type cs o b _ _ h
-    (to_inner kind.If r type 2 Nothing _ cs o g.arm v s (inr (inl (refl, refl)), refl))
+    (to_inner kind.If r type 2 None _ cs o g.arm v s (inr (inl (refl, refl)), refl))
     (either kind.If r type cs o (has r o.node 2) _ _
-    (λ z. to_inner kind.If r type 2 Nothing _ cs o (g.other z) v s (inr (inr ((refl, refl), z)), refl))
+    (λ z. to_inner kind.If r type 2 None _ cs o (g.other z) v s (inr (inr ((refl, refl), z)), refl))
     (λ z. (tt, omega arith)))))
 if_goes_on r type cs m o l j f e g s v (inr (inl w), q) y =
     let two : eqb o.came 1 ≡ false = rw w.0 refl in
@@ -137,14 +137,14 @@ or_sort ty.Long m h = absurd (let z : ◌≡◌ {A = ℕ} 0 1 = cc in omega arit
 or_sort ty.Bool m h = (refl, cc)
 
 pub binary_starts : (r : Rule) (type : ℕ → Option Ty) (cs : List Value) (m : Meaning) (o : Open) → GoodBinary r type o.node → Stands r cs o → Right kind.Binary r type (started kind.Binary r o cs m) cs o
-binary_starts r type cs m o g s = to_expression kind.Binary r type 1 Nothing _ g.sort cs o g.left s (inl (refl, refl), refl)
+binary_starts r type cs m o g s = to_expression kind.Binary r type 1 None _ g.sort cs o g.left s (inl (refl, refl), refl)
 
 -- the left operand may decide
 decides : (r : Rule) (type : ℕ → Option Ty) (cs : List Value) (o : Open) → (g : GoodBinary r type o.node) → Stands r cs o → (b : Bool) → g.made ≡ ty.Bool → Right kind.Binary r type (ends (Valued (Truth b))) cs o
 decides r type cs o g s b t = let u = s.used in (rw (g.type_is, t) refl, omega arith)
 
-goes_right : (r : Rule) (type : ℕ → Option Ty) (cs : List Value) (o : Open) → (g : GoodBinary r type o.node) → Stands r cs o → (v : Value) → is_of (Some g.sort) v ≡ true → Right kind.Binary r type (runs 2 (Left v) (child r o.node 1)) cs o
-goes_right r type cs o g s v h = to_expression kind.Binary r type 2 (Left v) _ g.sort cs o g.right s (inr (record { at = (refl, refl); left = v; kept = refl; typed = rw g.left.typed h }), refl)
+goes_right : (r : Rule) (type : ℕ → Option Ty) (cs : List Value) (o : Open) → (g : GoodBinary r type o.node) → Stands r cs o → (v : Value) → is_of (Some g.sort) v ≡ true → Right kind.Binary r type (runs 2 (Some (Left v)) (child r o.node 1)) cs o
+goes_right r type cs o g s v h = to_expression kind.Binary r type 2 (Some (Left v)) _ g.sort cs o g.right s (inr (record { at = (refl, refl); left = v; kept = refl; typed = rw g.left.typed h }), refl)
 
 left_by : (r : Rule) (type : ℕ → Option Ty) (cs : List Value) (o : Open) → (g : GoodBinary r type o.node) → Stands r cs o → (v : Value) → is_of (Some g.sort) v ≡ true → (p : Operator) → operator_type g.sort p ≡ Some g.made → Right kind.Binary r type (left_turn r o (Some p) v) cs o
 left_by r type cs o g s v h Add t = goes_right r type cs o g s v h
@@ -183,7 +183,7 @@ binary_goes_on r type cs m o l j f e g s (inr w, q) y =
 -- ── An assignment ──
 
 pub assignment_starts : (r : Rule) (type : ℕ → Option Ty) (cs : List Value) (m : Meaning) (o : Open) → GoodAssignment r type o.node → Stands r cs o → Right kind.Assignment r type (started kind.Assignment r o cs m) cs o
-assignment_starts r type cs m o g s = to_location kind.Assignment r type 1 Nothing _ g.sort cs o g.left s (inl (refl, refl), refl)
+assignment_starts r type cs m o g s = to_location kind.Assignment r type 1 None _ g.sort cs o g.left s (inl (refl, refl), refl)
 
 pub assignment_goes_on : (r : Rule) (type : ℕ → Option Ty) (cs : List Value) (m : Meaning) (o : Open) (j f : ℕ) (e : Completion) → (node r o.node).kind ≡ kind.Assignment → GoodAssignment r type o.node → Stands r cs o → WaitsBy kind.Assignment r type cs o j f → Gives r type cs (length cs) j e → Right kind.Assignment r type (resumed kind.Assignment r o cs m e) cs o
 assignment_goes_on r type cs m o j f e k g s (inl w, q) y =
@@ -191,7 +191,7 @@ assignment_goes_on r type cs m o j f e k g s (inl w, q) y =
     let n = no_needs r o.node 8 (ap number k) refl refl in
     let u = s.used in
     rw (one, assignment_turn) (cell_right kind.Assignment r type (length cs) _ g.sort cs o e _ g.left (rw w.1 at y) (λ a v lt h t.
-    to_expression kind.Assignment r type 2 (Target a) _ g.sort cs o g.right s
+    to_expression kind.Assignment r type 2 (Some (Target a)) _ g.sort cs o g.right s
     (inr (record { at = (refl, refl); target = a; kept = refl; low = omega arith; holds = h }), refl)))
 assignment_goes_on r type cs m o j f e k g s (inr w, q) y =
     let two : eqb o.came 1 ≡ false = rw w.at.0 refl in

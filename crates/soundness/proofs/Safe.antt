@@ -111,14 +111,14 @@ At r o j came k = (o.came ≡ came) × (j ≡ child r o.node k)
 pub record WaitsStored (r : Rule) (type : ℕ → Option Ty) (cells : List Value) (o : Open) (j : ℕ) : Type 0 where
   pub at : At r o j 2 1
   pub target : ℕ
-  pub kept : o.kept ≡ Target target
+  pub kept : o.kept ≡ Some (Target target)
   pub low : target < o.base
   pub holds : Holds cells target (type (child r o.node 0))
 
 pub record WaitsRight (r : Rule) (type : ℕ → Option Ty) (o : Open) (j : ℕ) : Type 0 where
   pub at : At r o j 2 1
   pub left : Value
-  pub kept : o.kept ≡ Left left
+  pub kept : o.kept ≡ Some (Left left)
   pub typed : is_of (type (child r o.node 0)) left ≡ true
 
 pub record WaitsItem (r : Rule) (o : Open) (j k : ℕ) : Type 0 where

@@ -13,7 +13,6 @@ use Rattle.semantics.specs.Kinds.{to_child, element_turn, index_turn, for_turn, 
 use Rattle.semantics.specs.declared.value.Value.{Value}
 use Rattle.semantics.specs.declared.progress.Completion.{Completion}
 use Rattle.semantics.specs.declared.progress.Completion.TheVariants.{Returned}
-use Rattle.semantics.specs.declared.progress.Kept.TheVariants.{Nothing}
 use Rattle.semantics.specs.declared.progress.Open.{Open}
 use Rattle.soundness.specs.Checked.{offset, result, GoodFor, GoodWhile, GoodReturn, GoodElement, GoodBy}
 use Rattle.soundness.proofs.Classes.{is_simple, is_call}
@@ -27,7 +26,7 @@ use Rattle.soundness.proofs.Right.{one_cell, scalar_by}
 -- ── A step ──
 
 pub step_starts : (r : Rule) (type : ℕ → Option Ty) (cs : List Value) (m : Meaning) (o : Open) → GoodBy kind.Step r type o.node → Stands r cs o → Right kind.Step r type (started kind.Step r o cs m) cs o
-step_starts r type cs m o g s = to_location kind.Step r type 1 Nothing _ g.sort cs o g.left s ((refl, refl), refl)
+step_starts r type cs m o g s = to_location kind.Step r type 1 None _ g.sort cs o g.left s ((refl, refl), refl)
 
 pub step_goes_on : (r : Rule) (type : ℕ → Option Ty) (cs : List Value) (m : Meaning) (o : Open) (l j f : ℕ) (e : Completion) → GoodBy kind.Step r type o.node → Stands r cs o → WaitsBy kind.Step r type cs o j f → Gives r type cs l j e → Right kind.Step r type (resumed kind.Step r o cs m e) cs o
 step_goes_on r type cs m o l j f e g s w y =
@@ -51,7 +50,7 @@ statement_goes_on r type cs m o l j f e g s w y =
 -- ── A for ──
 
 pub for_starts : (r : Rule) (type : ℕ → Option Ty) (cs : List Value) (m : Meaning) (o : Open) → GoodFor r type o.node → Stands r cs o → Right kind.For r type (started kind.For r o cs m) cs o
-for_starts r type cs m o g s = to_expression kind.For r type 1 Nothing _ g.sort cs o g.first s (inl (inl (refl, refl)), refl)
+for_starts r type cs m o g s = to_expression kind.For r type 1 None _ g.sort cs o g.first s (inl (inl (refl, refl)), refl)
 
 index_right : (r : Rule) (type : ℕ → Option Ty) (cs : List Value) (o : Open) (v : Value) → (g : GoodFor r type o.node) → Stands r cs o → is_of (Some g.sort) v ≡ true → Right kind.For r type (index_turn r o cs v) cs o
 index_right r type cs o v g s h =
@@ -62,7 +61,7 @@ index_right r type cs o v g s h =
     out_right kind.For r type cs o o.node (Some g.sort) _ _ (assigned_fits g.sort 0 c.1.held v (inl refl) old h)
     (λ w t.
     let like = like_same g.sort c.1.held w old t in
-    (inl (c.1.held, c.1.there, like), to_expression kind.For r type 2 Nothing _ ty.Bool (set cs (address r o.frame g.declaration) w) o g.test (stands_set r cs o _ c.1.held w c.1.there like s) (inl (inr (refl, refl)), refl)))
+    (inl (c.1.held, c.1.there, like), to_expression kind.For r type 2 None _ ty.Bool (set cs (address r o.frame g.declaration) w) o g.test (stands_set r cs o _ c.1.held w c.1.there like s) (inl (inr (refl, refl)), refl)))
     in
     some_right kind.For r type cs o _ _ _ g.index.meant (scalar_by r type cs o g.declaration _ (λ a old. on_computed o.node (assigned 0 old v) (λ w. sets a w (to_child r o 2 1))) g.index.scalar kind.For c.1 stored)
 
@@ -75,33 +74,33 @@ for_goes_on r type cs m o l j f e g s v (inl (inr w), q) y =
     let one : eqb o.came 1 ≡ false = rw w.0 refl in
     let two : eqb o.came 2 ≡ true = rw w.0 refl in
     rw (one, for_turn, two) (value_right kind.For r type l _ ty.Bool cs o e _ g.test (rw w.1 at y) (λ x h. truth_right kind.For r type cs o x _ _ h
-    (to_inner kind.For r type 3 Nothing _ cs o g.block v s (inr (inl (refl, refl)), refl))
+    (to_inner kind.For r type 3 None _ cs o g.block v s (inr (inl (refl, refl)), refl))
     (tt, omega arith)))
 for_goes_on r type cs m o l j f e g s v (inr (inl w), q) y =
     let u = s.used in
     let one : eqb o.came 1 ≡ false = rw w.0 refl in
     let two : eqb o.came 2 ≡ false = rw w.0 refl in
     let three : eqb o.came 3 ≡ true = rw w.0 refl in
-    let third = to_inner kind.For r type 4 Nothing _ cs o g.third v s (inr (inr (refl, refl)), refl) in
+    let third = to_inner kind.For r type 4 None _ cs o g.third v s (inr (inr (refl, refl)), refl) in
     rw (one, for_turn, two, three) (end_right kind.For r type l _ cs o e _ _ _ g.block (rw w.1 at y) third (λ h. (tt, omega arith)) (λ h. third) (λ x h. (h, omega arith)))
 for_goes_on r type cs m o l j f e g s v (inr (inr w), q) y =
     let one : eqb o.came 1 ≡ false = rw w.0 refl in
     let two : eqb o.came 2 ≡ false = rw w.0 refl in
     let three : eqb o.came 3 ≡ false = rw w.0 refl in
     let y' = rw w.1 at y in
-    rw (one, for_turn, two, three) (simple_by kind.For r type cs o e _ _ _ (rw (is_simple _ g.update) at y') (to_expression kind.For r type 2 Nothing _ ty.Bool cs o g.test s (inl (inr (refl, refl)), refl)))
+    rw (one, for_turn, two, three) (simple_by kind.For r type cs o e _ _ _ (rw (is_simple _ g.update) at y') (to_expression kind.For r type 2 None _ ty.Bool cs o g.test s (inl (inr (refl, refl)), refl)))
 
 -- ── A while ──
 
 pub while_starts : (r : Rule) (type : ℕ → Option Ty) (cs : List Value) (m : Meaning) (o : Open) → GoodWhile r type o.node → Stands r cs o → Right kind.While r type (started kind.While r o cs m) cs o
-while_starts r type cs m o g s = to_expression kind.While r type 1 Nothing _ ty.Bool cs o g.test s (inl (refl, refl), refl)
+while_starts r type cs m o g s = to_expression kind.While r type 1 None _ ty.Bool cs o g.test s (inl (refl, refl), refl)
 
 pub while_goes_on : (r : Rule) (type : ℕ → Option Ty) (cs : List Value) (m : Meaning) (o : Open) (l j f : ℕ) (e : Completion) → GoodWhile r type o.node → Stands r cs o → o.base ≡ o.frame + offset r o.node → WaitsBy kind.While r type cs o j f → Gives r type cs l j e → Right kind.While r type (resumed kind.While r o cs m e) cs o
 while_goes_on r type cs m o l j f e g s v (inl w, q) y =
     let u = s.used in
     let one : eqb o.came 1 ≡ true = rw w.0 refl in
     rw (one, while_turn) (value_right kind.While r type l _ ty.Bool cs o e _ g.test (rw w.1 at y) (λ x h. truth_right kind.While r type cs o x _ _ h
-    (to_inner kind.While r type 2 Nothing _ cs o g.block v s (inr (refl, refl), refl))
+    (to_inner kind.While r type 2 None _ cs o g.block v s (inr (refl, refl), refl))
     (tt, omega arith)))
 while_goes_on r type cs m o l j f e g s v (inr w, q) y =
     let u = s.used in
@@ -114,7 +113,7 @@ while_goes_on r type cs m o l j f e g s v (inr w, q) y =
 return_by : (r : Rule) (type : ℕ → Option Ty) (cs : List Value) (o : Open) (t : Option Ty) (b : Bool) → result r o.node ≡ t → has r o.node 0 ≡ b → GoodReturn t b r type o.node → Stands r cs o → Right kind.Return r type (elim b [ true ↦ to_child r o 1 0 | false ↦ ends (Returned None) ]) cs o
 return_by r type cs o None true p q g s = absurd g
 return_by r type cs o None false p q g s = let u = s.used in (rw p tt, omega arith)
-return_by r type cs o (Some t) true p q g s = to_expression kind.Return r type 1 Nothing _ t cs o g s (((refl, refl), q), refl)
+return_by r type cs o (Some t) true p q g s = to_expression kind.Return r type 1 None _ t cs o g s (((refl, refl), q), refl)
 return_by r type cs o (Some t) false p q g s = absurd g
 
 pub return_starts : (r : Rule) (type : ℕ → Option Ty) (cs : List Value) (m : Meaning) (o : Open) → GoodBy kind.Return r type o.node → Stands r cs o → Right kind.Return r type (started kind.Return r o cs m) cs o
@@ -138,7 +137,7 @@ continue_starts r type cs m o g s = let u = s.used in (g, omega arith)
 -- ── An element of an array ──
 
 pub element_starts : (r : Rule) (type : ℕ → Option Ty) (cs : List Value) (m : Meaning) (o : Open) → GoodElement r type o.node → Stands r cs o → Right kind.ArrayLocation r type (started kind.ArrayLocation r o cs m) cs o
-element_starts r type cs m o g s = to_expression kind.ArrayLocation r type 1 Nothing _ ty.Int cs o g.index s ((refl, refl), refl)
+element_starts r type cs m o g s = to_expression kind.ArrayLocation r type 1 None _ ty.Int cs o g.index s ((refl, refl), refl)
 
 element_by : (r : Rule) (type : ℕ → Option Ty) (cs : List Value) (o : Open) (x : ℤ) → (g : GoodElement r type o.node) → Stands r cs o → Right kind.ArrayLocation r type (element_turn r o cs g.declaration x) cs o
 element_by r type cs o (negsuc x) g s = only_right kind.ArrayLocation r type cs o (eqb (kind_at r g.declaration) 4) _ (rw g.array refl) tt
@@ -157,7 +156,7 @@ element_goes_on r type cs m o l j f e g s w y = value_right kind.ArrayLocation r
 -- ── A unary operator, a cast, a len, a string ──
 
 pub unary_starts : (r : Rule) (type : ℕ → Option Ty) (cs : List Value) (m : Meaning) (o : Open) → GoodBy kind.Unary r type o.node → Stands r cs o → Right kind.Unary r type (started kind.Unary r o cs m) cs o
-unary_starts r type cs m o g s = to_expression kind.Unary r type 1 Nothing _ g.sort cs o g.operand s ((refl, refl), refl)
+unary_starts r type cs m o g s = to_expression kind.Unary r type 1 None _ g.sort cs o g.operand s ((refl, refl), refl)
 
 pub unary_goes_on : (r : Rule) (type : ℕ → Option Ty) (cs : List Value) (m : Meaning) (o : Open) (l j f : ℕ) (e : Completion) → GoodBy kind.Unary r type o.node → Stands r cs o → WaitsBy kind.Unary r type cs o j f → Gives r type cs l j e → Right kind.Unary r type (resumed kind.Unary r o cs m e) cs o
 unary_goes_on r type cs m o l j f e g s w y =
@@ -165,7 +164,7 @@ unary_goes_on r type cs m o l j f e g s w y =
     value_right kind.Unary r type l _ g.sort cs o e _ g.operand (rw w.0.1 at y) (λ v h. out_right kind.Unary r type cs o o.node (Some g.sort) _ _ (inverted_fits g.sort (node r o.node).tag v g.op h) (λ x k. (rw g.typed k, omega arith)))
 
 pub cast_starts : (r : Rule) (type : ℕ → Option Ty) (cs : List Value) (m : Meaning) (o : Open) → GoodBy kind.Cast r type o.node → Stands r cs o → Right kind.Cast r type (started kind.Cast r o cs m) cs o
-cast_starts r type cs m o g s = to_expression kind.Cast r type 1 Nothing _ g.sort cs o g.operand s ((refl, refl), refl)
+cast_starts r type cs m o g s = to_expression kind.Cast r type 1 None _ g.sort cs o g.operand s ((refl, refl), refl)
 
 pub cast_goes_on : (r : Rule) (type : ℕ → Option Ty) (cs : List Value) (m : Meaning) (o : Open) (l j f : ℕ) (e : Completion) → GoodBy kind.Cast r type o.node → Stands r cs o → WaitsBy kind.Cast r type cs o j f → Gives r type cs l j e → Right kind.Cast r type (resumed kind.Cast r o cs m e) cs o
 cast_goes_on r type cs m o l j f e g s w y =

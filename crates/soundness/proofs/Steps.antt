@@ -1,5 +1,5 @@
 -- What the parts of a turn need to be right, whatever the kind.
-use Rattle.std.proofs.Common.{◌≡◌, ℕ, ◌+◌, ◌<◌, Bool, true, false, cond, eqb, List, length, set, ℤ, Some, Option, sym, refl, inl, inr, arith, length-set}
+use Rattle.std.proofs.Common.{◌≡◌, ℕ, ◌+◌, ◌<◌, Bool, true, false, cond, eqb, List, length, set, ℤ, Some, Option, sym, refl, inl, inr, arith, length-set, Ok, Err, Result}
 use Rattle.std.proofs.lemmas.Bool.{true≢false}
 use Rattle.std.specs.List.{slice_get}
 use Rattle.nodes.specs.declared.kind.Kind.{Kind}
@@ -11,8 +11,8 @@ use Rattle.semantics.specs.Turns.{Turn, runs, ends, on_value, on_cell, on_end, o
 use Rattle.semantics.specs.Acts.{needs, onward}
 use Rattle.semantics.specs.declared.value.Value.{Value}
 use Rattle.semantics.specs.declared.value.Value.TheVariants.{Int, Long, Bool as Truth, Text}
-use Rattle.semantics.specs.declared.value.Computed.{Computed}
-use Rattle.semantics.specs.declared.value.Computed.TheVariants.{Made, ZeroDivisor, IllTyped}
+use Rattle.semantics.specs.declared.value.Misfit.{Misfit}
+use Rattle.semantics.specs.declared.value.Misfit.TheVariants.{ZeroDivisor, IllTyped}
 use Rattle.semantics.specs.declared.progress.Completion.{Completion}
 use Rattle.semantics.specs.declared.progress.Completion.TheVariants.{Ended, Valued, Located, Broke, Continued, Returned}
 use Rattle.semantics.specs.declared.progress.Kept.{Kept}
@@ -49,10 +49,10 @@ expression_level ending r l f j h = absurd h
 expression_level nothing r l f j h = h
 
 -- An expression, a location or a statement is next.
-pub to_expression : (k : Kind) (r : Rule) (type : ℕ → Option Ty) (came : ℕ) (kept : Kept) (j : ℕ) (t : Ty) (cs : List Value) (o : Open) → Expression r type o.node j t → Stands r cs o → WaitsBy k r type cs (onward o came kept) j o.frame → Right k r type (runs came kept j) cs o
+pub to_expression : (k : Kind) (r : Rule) (type : ℕ → Option Ty) (came : ℕ) (kept : Option Kept) (j : ℕ) (t : Ty) (cs : List Value) (o : Open) → Expression r type o.node j t → Stands r cs o → WaitsBy k r type cs (onward o came kept) j o.frame → Right k r type (runs came kept j) cs o
 to_expression k r type came kept j t cs o x s w = (w, child_held r cs o j x.names s, expression_level (class_at r j) r _ _ j (is_expression _ x.is), s)
 
-pub to_location : (k : Kind) (r : Rule) (type : ℕ → Option Ty) (came : ℕ) (kept : Kept) (j : ℕ) (t : Ty) (cs : List Value) (o : Open) → Location r type o.node j t → Stands r cs o → WaitsBy k r type cs (onward o came kept) j o.frame → Right k r type (runs came kept j) cs o
+pub to_location : (k : Kind) (r : Rule) (type : ℕ → Option Ty) (came : ℕ) (kept : Option Kept) (j : ℕ) (t : Ty) (cs : List Value) (o : Open) → Location r type o.node j t → Stands r cs o → WaitsBy k r type cs (onward o came kept) j o.frame → Right k r type (runs came kept j) cs o
 to_location k r type came kept j t cs o x s w = (w, child_held r cs o j x.names s, let e = is_cell (node r j).kind x.is in expression_level (class_at r j) r _ _ j (rw e tt), s)
 
 inner_level : (c : Class) (r : Rule) (l f j : ℕ) → IsInner c → l ≡ f + offset r j → LevelBy c r l f j
@@ -63,7 +63,7 @@ inner_level simple r l f j h e = e
 inner_level ending r l f j h e = e
 inner_level nothing r l f j h e = h
 
-pub to_inner : (k : Kind) (r : Rule) (type : ℕ → Option Ty) (came : ℕ) (kept : Kept) (j : ℕ) (cs : List Value) (o : Open) → Inner r o.node j → o.base ≡ o.frame + offset r o.node → Stands r cs o → WaitsBy k r type cs (onward o came kept) j o.frame → Right k r type (runs came kept j) cs o
+pub to_inner : (k : Kind) (r : Rule) (type : ℕ → Option Ty) (came : ℕ) (kept : Option Kept) (j : ℕ) (cs : List Value) (o : Open) → Inner r o.node j → o.base ≡ o.frame + offset r o.node → Stands r cs o → WaitsBy k r type cs (onward o came kept) j o.frame → Right k r type (runs came kept j) cs o
 to_inner k r type came kept j cs o x v s w =
     let u = s.used in
     let b = x.behind in
@@ -144,10 +144,10 @@ truth_right k r type cs o (Truth b) x y h p q = truth_by k r type cs o b x y p q
 truth_right k r type cs o (Text v) x y h p q = absurd (true≢false (sym h))
 
 -- An operator.
-pub out_right : (k : Kind) (r : Rule) (type : ℕ → Option Ty) (cs : List Value) (o : Open) (i : ℕ) (t : Option Ty) (p : Computed) (f : Value → Turn) → Computes p t → ((v : Value) → is_of t v ≡ true → Right k r type (f v) cs o) → Right k r type (on_computed i p f) cs o
-out_right k r type cs o i t (Made v) f h z = z v h
-out_right k r type cs o i t ZeroDivisor f h z = tt
-out_right k r type cs o i t IllTyped f h z = h
+pub out_right : (k : Kind) (r : Rule) (type : ℕ → Option Ty) (cs : List Value) (o : Open) (i : ℕ) (t : Option Ty) (p : Result Value Misfit) (f : Value → Turn) → Computes p t → ((v : Value) → is_of t v ≡ true → Right k r type (f v) cs o) → Right k r type (on_computed i p f) cs o
+out_right k r type cs o i t (Ok v) f h z = z v h
+out_right k r type cs o i t (Err ZeroDivisor) f h z = tt
+out_right k r type cs o i t (Err IllTyped) f h z = h
 
 -- A choice by a test.
 pub either : (k : Kind) (r : Rule) (type : ℕ → Option Ty) (cs : List Value) (o : Open) (b : Bool) (x y : Turn) → (b ≡ true → Right k r type x cs o) → (b ≡ false → Right k r type y cs o) → Right k r type (elim b [ true ↦ x | false ↦ y ]) cs o
@@ -155,10 +155,10 @@ either k r type cs o true x y p q = p refl
 either k r type cs o false x y p q = q refl
 
 -- What is kept, and what is there.
-pub kept_value_right : (k : Kind) (r : Rule) (type : ℕ → Option Ty) (cs : List Value) (o : Open) (x : Kept) (v : Value) (f : Value → Turn) → x ≡ Left v → Right k r type (f v) cs o → Right k r type (on_left x f) cs o
+pub kept_value_right : (k : Kind) (r : Rule) (type : ℕ → Option Ty) (cs : List Value) (o : Open) (x : Option Kept) (v : Value) (f : Value → Turn) → x ≡ Some (Left v) → Right k r type (f v) cs o → Right k r type (on_left x f) cs o
 kept_value_right k r type cs o x v f e h = rw e h
 
-pub kept_cell_right : (k : Kind) (r : Rule) (type : ℕ → Option Ty) (cs : List Value) (o : Open) (x : Kept) (a : ℕ) (f : ℕ → Turn) → x ≡ Target a → Right k r type (f a) cs o → Right k r type (on_target x f) cs o
+pub kept_cell_right : (k : Kind) (r : Rule) (type : ℕ → Option Ty) (cs : List Value) (o : Open) (x : Option Kept) (a : ℕ) (f : ℕ → Turn) → x ≡ Some (Target a) → Right k r type (f a) cs o → Right k r type (on_target x f) cs o
 kept_cell_right k r type cs o x a f e h = rw e h
 
 pub some_right : {A : Type 0} (k : Kind) (r : Rule) (type : ℕ → Option Ty) (cs : List Value) (o : Open) (x : Option A) (a : A) (f : A → Turn) → x ≡ Some a → Right k r type (f a) cs o → Right k r type (on_some x f) cs o

@@ -1,5 +1,5 @@
 -- A right turn of an open node leads to a safe state: one proof for all kinds.
-use Rattle.std.proofs.Common.{◌≡◌, ℕ, ◌+◌, ◌≤◌, ◌⊎◌, List, ◌∷◌, length, take, set, Some, Option, inl, inr, arith, length-take}
+use Rattle.std.proofs.Common.{◌≡◌, ℕ, ◌+◌, ◌≤◌, ◌⊎◌, List, ◌∷◌, length, take, set, Some, None, Option, inl, inr, arith, length-take}
 use Rattle.std.specs.List.{slice_get}
 use Rattle.book.specs.Meanings.{Meaning}
 use Rattle.nodes.specs.declared.kind.Kind.{Kind}
@@ -9,7 +9,6 @@ use Rattle.semantics.specs.Turns.{Turn, runs, enters, ends, sets, deals, stops, 
 use Rattle.semantics.specs.Acts.{needs, onward, turned}
 use Rattle.semantics.specs.declared.value.Value.{Value}
 use Rattle.semantics.specs.declared.import.Event.{Event}
-use Rattle.semantics.specs.declared.progress.Kept.TheVariants.{Nothing}
 use Rattle.semantics.specs.declared.progress.Open.{Open}
 use Rattle.soundness.proofs.Classes.{class}
 use Rattle.soundness.proofs.Safe.{Held, Room, GivesBy, WaitsBy, Level, Stack, Sound}
@@ -27,7 +26,7 @@ pub record Stands (r : Rule) (cs : List Value) (o : Open) : Type 0 where
 -- The turn of an open node of kind k is right.
 abbrev pub Right : Kind → Rule → (ℕ → Option Ty) → Turn → List Value → Open → Type 0
 Right k r type (runs came kept j) cs o = WaitsBy k r type cs (onward o came kept) j o.frame × Held r cs (length cs) o.frame j × Level r (length cs) o.frame j × Stands r cs o
-Right k r type (enters came j) cs o = WaitsBy k r type cs (onward o came Nothing) j o.base × Held r cs (length cs) o.base j × Level r (length cs) o.base j × Stands r cs o
+Right k r type (enters came j) cs o = WaitsBy k r type cs (onward o came None) j o.base × Held r cs (length cs) o.base j × Level r (length cs) o.base j × Stands r cs o
 Right k r type (ends e) cs o = GivesBy (class k) r type (take o.base cs) o.base o.node e × (o.base ≤ length cs)
 Right k r type (sets a v t) cs o = MaySet cs o a v × Right k r type t (set cs a v) o
 Right k r type (deals n e t) cs o = Right k r type t cs o
