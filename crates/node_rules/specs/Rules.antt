@@ -5,6 +5,7 @@
 -- the lowest rule; after all rules come the cells of the program's own variables.
 use Rattle.std.specs.Prelude.{ℕ, zero, suc, ◌+◌, ◌-◌, Bool, true, false, cond, not, ◌&&◌, ◌||◌, List, [], ◌∷◌, length, pos, is_some, Some, None, Option, ◌==◌, int_le, nat_le, nat_lt}
 use Rattle.finding.specs.declared.Finding.{Finding}
+use Rattle.std.specs.List.{find}
 use Rattle.nodes.specs.Kinds.{number, between}
 use Rattle.nodes.specs.declared.kind.Kind.{Kind}
 use Rattle.nodes.specs.declared.kind.Kind.TheVariants.{Program, Import, ScalarDeclaration, ArrayDeclaration, Method, Parameter, Assignment, Step, CallStatement, For, Return, ScalarLocation, ArrayLocation, Literal, Unary, Cast, Call, Len, Binary, Text}
@@ -119,8 +120,7 @@ broken_by TooLarge f = is_int_constant f && not (fits_32 f.node.value)
 broken_by TooManyCells f = false
 
 abbrev pub first_broken : List Violation → Facts → Option Violation
-first_broken [] f = None
-first_broken (v ∷ vs) f = cond (broken_by v f) (Some v) (first_broken vs f)
+first_broken vs f = find (λ v. broken_by v f) vs
 
 -- A call of an import gives an int.
 abbrev pub call_type : Option Declared → Option Ty

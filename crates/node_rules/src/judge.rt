@@ -43,75 +43,56 @@ const RULES: [Violation; 23] = [
 pub fn is_kind(a: Kind, b: Kind) -> bool
     ensures { result ≡ same_kind a b }
 {
-    a.number() == b.number()
+    a == b
 }
 
-// What a name means: a name that is not declared counts as one that fits.
+// What a name means. Where a kind of declaration is asked for, a name that is not declared counts as one that fits.
 
 fn is_scalar(means: Option<Declared>) -> bool
     ensures { result ≡ names_scalar means }
 {
-    match means {
-        None => true,
-        Some(d) => is_kind(d.kind, Kind::ScalarDeclaration) || is_kind(d.kind, Kind::Parameter),
-    }
+    means.is_none_or(|d| matches!(d.kind, Kind::ScalarDeclaration | Kind::Parameter))
 }
 
 fn is_array(means: Option<Declared>) -> bool
     ensures { result ≡ names_array means }
 {
-    match means {
-        None => true,
-        Some(d) => is_kind(d.kind, Kind::ArrayDeclaration),
-    }
+    means.is_none_or(|d| d.kind == Kind::ArrayDeclaration)
 }
 
 fn is_callable(means: Option<Declared>) -> bool
     ensures { result ≡ names_callable means }
 {
-    match means {
-        None => true,
-        Some(d) => is_kind(d.kind, Kind::Import) || is_kind(d.kind, Kind::Method),
-    }
+    means.is_none_or(|d| matches!(d.kind, Kind::Import | Kind::Method))
 }
 
 fn is_method(means: Option<Declared>) -> bool
     ensures { result ≡ names_method means }
 {
-    match means {
-        None => false,
-        Some(d) => is_kind(d.kind, Kind::Method),
-    }
-}
-
-fn type_of_declared(means: Option<Declared>) -> Option<Ty>
-    ensures { result ≡ declared_type means }
-{
-    match means {
-        None => None,
-        Some(d) => d.ty,
-    }
+    means.is_some_and(|d| d.kind == Kind::Method)
 }
 
 fn is_void(means: Option<Declared>) -> bool
     ensures { result ≡ names_void means }
 {
-    is_method(means) && type_of_declared(means).is_none()
+    means.is_some_and(|d| d.kind == Kind::Method && d.ty.is_none())
+}
+
+fn type_of_declared(means: Option<Declared>) -> Option<Ty>
+    ensures { result ≡ declared_type means }
+{
+    means?.ty
 }
 
 // The type of a call: an import gives an int.
 fn type_of_call(means: Option<Declared>) -> Option<Ty>
     ensures { result ≡ call_type means }
 {
-    match means {
-        None => None,
-        Some(d) => {
-            if is_kind(d.kind, Kind::Import) {
-                Some(Ty::Int)
-            } else {
-                d.ty
-            }
-        }
+    let declared = means?;
+    if declared.kind == Kind::Import {
+        Some(Ty::Int)
+    } else {
+        declared.ty
     }
 }
 
@@ -119,28 +100,36 @@ fn type_of_call(means: Option<Declared>) -> Option<Ty>
 fn is_within_32_bits(value: i64) -> bool
     ensures { result ≡ fits_32 value }
 {
-    -2147483648 <= value && value <= 2147483647
+    i32::try_from(value).is_ok()
 }
 
 impl Facts {
     fn is(&self, kind: Kind) -> bool
         ensures { result ≡ is kind self.now }
     {
-        is_kind(self.node.kind, kind)
+        self.node.kind == kind
     }
 
     fn is_declaration(&self) -> bool
         ensures { result ≡ is_declaration self.now }
     {
-        let kind = self.node.kind.number();
-        2 <= kind && kind <= 6
+        matches!(
+            self.node.kind,
+            Kind::Import
+                | Kind::ScalarDeclaration
+                | Kind::ArrayDeclaration
+                | Kind::Method
+                | Kind::Parameter
+        )
     }
 
     fn is_use(&self) -> bool
         ensures { result ≡ is_use self.now }
     {
-        let kind = self.node.kind.number();
-        self.is(Kind::For) || 17 <= kind && kind <= 18 || 22 <= kind && kind <= 23
+        matches!(
+            self.node.kind,
+            Kind::For | Kind::ScalarLocation | Kind::ArrayLocation | Kind::Call | Kind::Len
+        )
     }
 
     fn is_arithmetic(&self) -> bool
@@ -182,16 +171,14 @@ impl Facts {
     fn has_condition(&self) -> bool
         ensures { result ≡ between 11 13 (number self.now.node.kind) }
     {
-        let kind = self.node.kind.number();
-        11 <= kind && kind <= 13
+        matches!(self.node.kind, Kind::If | Kind::For | Kind::While)
     }
 
     // Whether it is a break or a continue.
     fn leaves_loop(&self) -> bool
         ensures { result ≡ between 15 16 (number self.now.node.kind) }
     {
-        let kind = self.node.kind.number();
-        15 <= kind && kind <= 16
+        matches!(self.node.kind, Kind::Break | Kind::Continue)
     }
 
     // Whether it has a value that must be an int: a literal, or an array's length.
@@ -233,7 +220,7 @@ impl Facts {
             Violation::VoidValue => {
                 self.is(Kind::Call)
                     && is_void(self.means)
-                    && !is_kind(self.parent, Kind::CallStatement)
+                    && self.parent != Kind::CallStatement
             }
             Violation::StringArgument => self.is(Kind::Text) && is_method(self.callee),
             Violation::ReturnedValue => {
@@ -273,13 +260,7 @@ impl Facts {
     fn first_of(&self, rules: &[Violation]) -> Option<Violation>
         ensures { result ≡ first_broken rules.now self.now }
     {
-        for k in 0..rules.len() {
-            let rule = rules[k];
-            if self.breaks(rule) {
-                return Some(rule);
-            }
-        }
-        None
+        rules.iter().copied().find(|rule| self.breaks(*rule))
     }
 
     /// The lowest rule that is broken.
