@@ -17,6 +17,8 @@ use Rattle.node_rules.specs.Violations.{rules}
 use Rattle.node_rules.specs.declared.facts.Declared.{Declared}
 use Rattle.node_rules.specs.declared.facts.Held.{Held}
 use Rattle.node_rules.specs.declared.facts.Facts.{Facts}
+use Rattle.node_rules.specs.declared.judge.Operation.{Operation}
+use Rattle.node_rules.specs.declared.judge.Operation.TheVariants as does
 use Rattle.node_rules.specs.declared.types.Ty.{Ty}
 use Rattle.node_rules.specs.declared.types.Ty.TheVariants.{Int, Bool as Truth}
 use Rattle.node_rules.specs.declared.violation.Violation.{Violation}
@@ -59,6 +61,16 @@ is_declaration f = between 2 6 (number f.node.kind)
 
 abbrev pub is_use : Facts → Bool
 is_use f = is For f || (between 17 18 (number f.node.kind) || between 22 23 (number f.node.kind))
+
+-- What the operator of a unary or binary expression does.
+abbrev pub operation : Facts → Option Operation
+operation f =
+    cond (is Unary f) (Some (cond (f.node.tag == 0) does.Arithmetic does.Logic))
+    (cond (is Binary f)
+    (Some
+    (cond (nat_le f.node.tag 4) does.Arithmetic
+    (cond (nat_le f.node.tag 8) does.Order (cond (nat_le f.node.tag 10) does.Equality does.Logic))))
+    None)
 
 -- Minus, arithmetic and orders; equality; logical operators.
 abbrev pub is_arithmetic : Facts → Bool

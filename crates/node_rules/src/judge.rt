@@ -2,7 +2,7 @@
 ghost use Rattle.std.specs.Prelude.{◌≡◌};
 ghost use Rattle.nodes.specs.Kinds.{number, between};
 ghost use Rattle.node_rules.specs.Scopes.{fits_32};
-ghost use Rattle.node_rules.specs.Rules.{same_kind, is, names_scalar, names_array, names_callable, names_method, names_void, declared_type, is_declaration, is_use, is_arithmetic, is_equality, is_logical, is_compound, condition, is_int_constant, has_index, of_one, of_one_number, broken_by, first_broken, call_type, sound_type, typed_unless};
+ghost use Rattle.node_rules.specs.Rules.{same_kind, is, names_scalar, names_array, names_callable, names_method, names_void, declared_type, is_declaration, is_use, operation, is_arithmetic, is_equality, is_logical, is_compound, condition, is_int_constant, has_index, of_one, of_one_number, broken_by, first_broken, call_type, sound_type, typed_unless};
 ghost use Rattle.node_rules.specs.Violations.{rules};
 
 use crate::facts::{Declared, Facts};
@@ -38,6 +38,17 @@ const RULES: [Violation; 23] = [
     Violation::OutsideLoop,
     Violation::TooLarge,
 ];
+
+/// What an operator does with its operands.
+#[derive(Clone, Copy, PartialEq, Eq, Debug)]
+enum Operation {
+    /// minus, and what makes a number of two
+    Arithmetic,
+    Order,
+    Equality,
+    /// not, and, or
+    Logic,
+}
 
 /// Whether two kinds are one.
 pub fn is_kind(a: Kind, b: Kind) -> bool
@@ -132,22 +143,38 @@ impl Facts {
         )
     }
 
+    // What the operator of a unary or binary expression does, by its tag; none of another node.
+    fn operation(&self) -> Option<Operation>
+        ensures { result ≡ operation self.now }
+    {
+        match (self.node.kind, self.node.tag) {
+            (Kind::Unary, 0) | (Kind::Binary, 0..=4) => Some(Operation::Arithmetic),
+            (Kind::Binary, 5..=8) => Some(Operation::Order),
+            (Kind::Binary, 9..=10) => Some(Operation::Equality),
+            (Kind::Unary | Kind::Binary, _) => Some(Operation::Logic),
+            _ => None,
+        }
+    }
+
     fn is_arithmetic(&self) -> bool
         ensures { result ≡ is_arithmetic self.now }
     {
-        self.is(Kind::Unary) && self.node.tag == 0 || self.is(Kind::Binary) && self.node.tag <= 8
+        matches!(
+            self.operation(),
+            Some(Operation::Arithmetic | Operation::Order)
+        )
     }
 
     fn is_equality(&self) -> bool
         ensures { result ≡ is_equality self.now }
     {
-        self.is(Kind::Binary) && 9 <= self.node.tag && self.node.tag <= 10
+        self.operation() == Some(Operation::Equality)
     }
 
     fn is_logical(&self) -> bool
         ensures { result ≡ is_logical self.now }
     {
-        self.is(Kind::Unary) && self.node.tag != 0 || self.is(Kind::Binary) && self.node.tag >= 11
+        self.operation() == Some(Operation::Logic)
     }
 
     fn is_compound(&self) -> bool
@@ -185,7 +212,8 @@ impl Facts {
     fn is_int_constant(&self) -> bool
         ensures { result ≡ is_int_constant self.now }
     {
-        self.is(Kind::Literal) && self.node.tag == 1 || self.is(Kind::ArrayDeclaration)
+        self.is(Kind::Literal) && type_of_tag(self.node.tag) == Some(Ty::Int)
+            || self.is(Kind::ArrayDeclaration)
     }
 
     // Whether a for's index is an int or long scalar, and the first expression of its type.
@@ -218,9 +246,7 @@ impl Facts {
             Violation::EmptyArray => self.is(Kind::ArrayDeclaration) && self.node.value <= 0,
             Violation::Arguments => self.is(Kind::Call) && is_method(self.means) && !self.matching,
             Violation::VoidValue => {
-                self.is(Kind::Call)
-                    && is_void(self.means)
-                    && self.parent != Kind::CallStatement
+                self.is(Kind::Call) && is_void(self.means) && self.parent != Kind::CallStatement
             }
             Violation::StringArgument => self.is(Kind::Text) && is_method(self.callee),
             Violation::ReturnedValue => {
@@ -256,18 +282,11 @@ impl Facts {
         }
     }
 
-    // The first of some rules that is broken.
-    fn first_of(&self, rules: &[Violation]) -> Option<Violation>
-        ensures { result ≡ first_broken rules.now self.now }
-    {
-        rules.iter().copied().find(|rule| self.breaks(*rule))
-    }
-
     /// The lowest rule that is broken.
     pub fn first_broken(&self) -> Option<Violation>
         ensures { result ≡ first_broken rules self.now }
     {
-        self.first_of(&RULES)
+        RULES.iter().copied().find(|rule| self.breaks(*rule))
     }
 
     // The type of an expression that breaks no rule and holds none without a type.
@@ -277,14 +296,16 @@ impl Facts {
         let node = self.node;
         match node.kind {
             Kind::ScalarLocation | Kind::ArrayLocation => type_of_declared(self.means),
-            Kind::Literal => type_of_tag(node.tag),
-            Kind::Cast => type_of_tag(node.tag),
-            Kind::Unary if node.tag == 0 => self.held.first,
-            Kind::Unary => Some(Ty::Bool),
+            Kind::Literal | Kind::Cast => type_of_tag(node.tag),
             Kind::Call => type_of_call(self.means),
             Kind::Len => Some(Ty::Int),
-            Kind::Binary if node.tag <= 4 => self.held.first,
-            Kind::Binary => Some(Ty::Bool),
+            Kind::Unary | Kind::Binary => {
+                if self.operation() == Some(Operation::Arithmetic) {
+                    self.held.first
+                } else {
+                    Some(Ty::Bool)
+                }
+            }
             _ => None,
         }
     }

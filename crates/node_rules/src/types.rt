@@ -2,6 +2,9 @@
 ghost use Rattle.std.specs.Prelude.{◌≡◌};
 ghost use Rattle.node_rules.specs.Types.{Tells, tagged, fits, fits_asked, both_fit, of_one_number_type, of_one_type};
 
+use std::error::Error;
+use std::fmt;
+
 /// The type of a value.
 #[derive(Clone, Copy, PartialEq, Eq, Debug)]
 pub enum Ty {
@@ -12,22 +15,30 @@ pub enum Ty {
 
 /// A tag that tells no type.
 #[derive(Clone, Copy, PartialEq, Eq, Debug)]
-pub struct Untyped(pub u8);
+pub struct UnknownType(pub u8);
 
 impl TryFrom<u8> for Ty {
-    type Error = Untyped;
+    type Error = UnknownType;
 
     ghost try_from_gives = { Tells };
 
-    fn try_from(tag: u8) -> Result<Self, Untyped> {
+    fn try_from(tag: u8) -> Result<Self, UnknownType> {
         match tag {
             1 => Ok(Ty::Int),
             2 => Ok(Ty::Long),
             3 => Ok(Ty::Bool),
-            _ => Err(Untyped(tag)),
+            _ => Err(UnknownType(tag)),
         }
     }
 }
+
+impl fmt::Display for UnknownType {
+    fn fmt<W: fmt::Write>(&self, f: &mut fmt::Formatter<W>) -> fmt::Result {
+        write!(f, "no type has the tag {}", self.0)
+    }
+}
+
+impl Error for UnknownType {}
 
 /// The type that a tag tells, if it tells one.
 pub fn type_of_tag(tag: u8) -> Option<Ty>
