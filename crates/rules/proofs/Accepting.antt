@@ -4,9 +4,9 @@ use Rattle.finding.specs.declared.Finding.{Finding}
 use Rattle.rules.specs.Accepted.{AcceptedKeeps}
 use Rattle.rules.specs.Rules.{Facts, broken_by, first_broken, broken, facts_at, found, first_from, or_cells, field_cells, first_violation}
 use Rattle.rules.specs.Tables.{Table}
-use Rattle.rules.specs.Violations.{rules}
-use Rattle.rules.specs.declared.violation.Violation.{Violation}
-use Rattle.rules.specs.declared.violation.Violation.TheVariants.{RepeatedName, Undeclared, NoMain, EmptyArray, Arguments, VoidValue, StringArgument, ReturnedValue, MissingResult, NotScalar, NotCallable, NotElement, NotArray, Condition, Arithmetic, Equality, Logic, CastOperand, Assigned, Compound, Index, OutsideLoop, TooLarge, TooManyCells}
+use Rattle.node_rules.specs.Violations.{rules}
+use Rattle.node_rules.specs.declared.violation.Violation.{Violation}
+use Rattle.node_rules.specs.declared.violation.Violation.TheVariants.{RepeatedName, Undeclared, NoMain, EmptyArray, Arguments, VoidValue, StringArgument, ReturnedValue, MissingResult, NotScalar, NotCallable, NotElement, NotArray, Condition, Arithmetic, Equality, Logic, CastOperand, Assigned, Compound, Index, OutsideLoop, TooLarge, TooManyCells}
 
 -- None of some rules is broken.
 abbrev Each : List Violation → Facts → Type 0
@@ -69,7 +69,7 @@ cells_none t None h = (refl, cases (ltb 2048 (field_cells t)) refl)
     cases : (b : Bool) → ltb 2048 (field_cells t) ≡ b → b ≡ false
     cases false e = refl
     cases true e =
-        let g : Some (record { place = 0; cause = TooManyCells }) ≡ None = sym (ap (λ b. cond b (Some (record { place = 0; cause = TooManyCells })) None) e) ∙ h in
+        let g : ◌≡◌ {A = Option (Finding Violation)} (Some (record { place = 0; cause = TooManyCells })) None = sym (ap (λ b. cond b (Some (record { place = 0; cause = TooManyCells })) None) e) ∙ h in
         let z : ◌≡◌ {A = ℕ} 0 1 = cc in absurd (omega arith)
 
 broken_is : (t : Table) (i : ℕ) (v : Violation) → broken t i v ≡ broken_by v (facts_at t i)

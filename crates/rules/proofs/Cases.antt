@@ -7,7 +7,7 @@ use Rattle.rules.specs.Tables.{table_of}
 use Rattle.rules.specs.Scopes.{scope, meant, repeated, in_loop, method_of}
 use Rattle.rules.specs.Rules.{type_of, broken, first_violation}
 use Rattle.rules.specs.Worked.{node, method, block, main, scalar, array, assign, loc, literal, binary, call, statement, string, import, broken_at, verdict}
-use Rattle.rules.specs.declared.violation.Violation.TheVariants.{RepeatedName, Undeclared, NoMain, EmptyArray, Arguments, VoidValue, ReturnedValue, MissingResult, NotScalar, NotCallable, Condition, Arithmetic, Assigned, Compound, OutsideLoop, TooManyCells}
+use Rattle.node_rules.specs.declared.violation.Violation.TheVariants.{RepeatedName, Undeclared, NoMain, EmptyArray, Arguments, VoidValue, ReturnedValue, MissingResult, NotScalar, NotCallable, Condition, Arithmetic, Assigned, Compound, OutsideLoop, TooManyCells}
 
 pub micron : verdict (import 2 ++ main (scalar 1 1 ++ (assign 0 (loc 1) (literal 1 195) ++ statement (call 2 (string ++ (literal 1 3 ++ loc 1)))))) ≡ None
 unfolding body_at split parent ancestors children table_of scope meant repeated in_loop method_of type_of broken first_violation
