@@ -39,6 +39,9 @@ const RULES: [Violation; 23] = [
     Violation::TooLarge,
 ];
 
+/// The tag of an assignment `=`; any other reckons with the old value, as `+=`.
+const PLAIN: u8 = 0;
+
 /// What an operator does with its operands.
 #[derive(Clone, Copy, PartialEq, Eq, Debug)]
 enum Operation {
@@ -50,7 +53,7 @@ enum Operation {
     Logic,
 }
 
-/// Whether two kinds are one.
+/// Whether two kinds are one, which `==` says too.
 pub fn is_kind(a: Kind, b: Kind) -> bool
     ensures { result ≡ same_kind a b }
 {
@@ -143,7 +146,8 @@ impl Facts {
         )
     }
 
-    // What the operator of a unary or binary expression does, by its tag; none of another node.
+    // What the operator of a unary or binary expression does; none of another node. Its tag may be any byte: one past the last
+    // operator's counts as logic.
     fn operation(&self) -> Option<Operation>
         ensures { result ≡ operation self.now }
     {
@@ -180,7 +184,7 @@ impl Facts {
     fn is_compound(&self) -> bool
         ensures { result ≡ is_compound self.now }
     {
-        self.is(Kind::Step) || self.is(Kind::Assignment) && self.node.tag != 0
+        self.is(Kind::Step) || self.is(Kind::Assignment) && self.node.tag != PLAIN
     }
 
     // The type of the condition of an if, a for or a while.
@@ -272,7 +276,7 @@ impl Facts {
             }
             Violation::CastOperand => self.is(Kind::Cast) && !self.are_one_number(),
             Violation::Assigned => {
-                self.is(Kind::Assignment) && self.node.tag == 0 && !self.are_one()
+                self.is(Kind::Assignment) && self.node.tag == PLAIN && !self.are_one()
             }
             Violation::Compound => self.is_compound() && !self.are_one_number(),
             Violation::Index => self.is(Kind::For) && !self.has_index(),
