@@ -127,23 +127,13 @@ impl Facts {
     fn is_declaration(&self) -> bool
         ensures { result ≡ is_declaration self.now }
     {
-        matches!(
-            self.node.kind,
-            Kind::Import
-                | Kind::ScalarDeclaration
-                | Kind::ArrayDeclaration
-                | Kind::Method
-                | Kind::Parameter
-        )
+        self.node.kind.declares_name()
     }
 
     fn is_use(&self) -> bool
         ensures { result ≡ is_use self.now }
     {
-        matches!(
-            self.node.kind,
-            Kind::For | Kind::ScalarLocation | Kind::ArrayLocation | Kind::Call | Kind::Len
-        )
+        self.node.kind.uses_name()
     }
 
     // What the operator of a unary or binary expression does; none of another node. Its tag may be any byte: one past the last
