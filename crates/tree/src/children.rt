@@ -9,58 +9,30 @@ use nodes::bytes::byte;
 use nodes::kind::Kind;
 use nodes::shape::{Slot, Times};
 
-// Whether a slot asks for a child.
-fn is_asking(times: Times) -> bool
-    ensures { result ≡ asks times }
-{
-    match times {
-        Times::One => true,
-        Times::Perhaps => false,
-        Times::Many => false,
-    }
-}
-
-// Whether a slot that has taken a child takes another.
-fn is_open(times: Times) -> bool
-    ensures { result ≡ again times }
-{
-    match times {
-        Times::One => false,
-        Times::Perhaps => false,
-        Times::Many => true,
-    }
-}
-
 // The slots that are left when a child of a kind has gone into one; none where it fits nowhere.
 fn left_after(slots: &[Slot], kind: u8) -> Option<&[Slot]>
     ensures { option_map (λ x. x.now) result ≡ filled slots.now kind }
 {
-    if slots.is_empty() {
-        return None;
-    }
-    let slot = slots[0];
+    let (slot, rest) = slots.split_first()?;
     if slot.class.has(kind) {
-        if is_open(slot.times) {
-            return Some(slots);
-        }
-        return Some(&slots[1..]);
+        return match slot.times {
+            Times::One | Times::Perhaps => Some(rest),
+            Times::Many => Some(slots),
+        };
     }
-    if is_asking(slot.times) {
-        return None;
+    match slot.times {
+        Times::One => None,
+        Times::Perhaps | Times::Many => left_after(rest, kind),
     }
-    left_after(&slots[1..], kind)
 }
 
 // Whether no slot that is left asks for a child.
 fn is_satisfied(slots: &[Slot]) -> bool
     ensures { result ≡ satisfied slots.now }
 {
-    for slot in slots {
-        if is_asking(slot.times) {
-            return false;
-        }
-    }
-    true
+    slots
+        .iter()
+        .all(|slot| !matches!(slot.times, Times::One))
 }
 
 // Whether the children of node i fill the slots of its kind. So many children at most are looked at as node i spans nodes.
