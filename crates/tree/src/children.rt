@@ -6,7 +6,7 @@ ghost use Rattle.layout.specs.Faults.{end_of, kind_byte, children_fit, bad_child
 ghost use Rattle.nodes.specs.Tree.{children, children_from};
 ghost use Rattle.nodes.specs.Shapes.{asks, again, filled, satisfied};
 
-use crate::sizes::end;
+use crate::walk::end;
 use nodes::bytes::byte;
 use nodes::kind::Kind;
 use nodes::shape::{Slot, Times};
@@ -32,9 +32,7 @@ fn left_after(slots: &[Slot], kind: u8) -> Option<&[Slot]>
 fn is_satisfied(slots: &[Slot]) -> bool
     ensures { result ≡ satisfied slots.now }
 {
-    slots
-        .iter()
-        .all(|slot| !matches!(slot.times, Times::One))
+    slots.iter().all(|slot| !matches!(slot.times, Times::One))
 }
 
 // The kinds of a node's children, by number: the first child stands next to the node, each further one where the one before ends.
