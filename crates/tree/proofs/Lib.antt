@@ -3,3 +3,4 @@ pub mod Filling
 pub mod Families
 pub mod Arranging
 pub mod Completing
+pub mod Walking

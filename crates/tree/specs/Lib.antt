@@ -1,3 +1,3 @@
 pub mod Spans
-pub mod Stack
+pub mod Walk
 pub mod Runs

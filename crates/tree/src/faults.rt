@@ -10,8 +10,9 @@ ghost use Rattle.nodes.specs.Nodes.{count};
 ghost use Rattle.layout.specs.Readers.{file_of};
 ghost use Rattle.layout.specs.declared.fault.FileFault.TheVariants.{NodeFields, NodeSize, NodeChildren, NodeDepth};
 
+use crate::MOST_NODES;
 use crate::children::has_bad_children;
-use crate::sizes::{MOST_NODES, depth_fault, size_fault};
+use crate::sizes::{depth_fault, size_fault};
 use finding::Finding;
 use layout::fault::FileFault;
 use layout::reader::Reader;
