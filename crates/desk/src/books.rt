@@ -1,11 +1,9 @@
 // The book that a script works on, of either make.
-use crate::script::column_name;
 use book::calls::{Answer, Call, make_call};
 use book::values::{Entry, values};
 use book_makes::slips::SlipsBook;
 use book_makes::table::TableBook;
 use std::alloc::{AllocError, Global};
-use std::fmt;
 
 /// A book of either make.
 #[derive(Drop)]

@@ -3,8 +3,7 @@
 // Programs differ in what they say of a file and in their help; all else is here. Nothing is promised of what is printed.
 #![tactic(auto)]
 
-use look::{Command, Program, Seen, look};
-use running::run_script;
+use look::{Command, Program, Seen};
 use std::env;
 use std::env::Args;
 use std::io::{self, Eprint, Print};
@@ -29,7 +28,7 @@ pub fn run<R: Files + Env + Print + Eprint + AllocGlobal, P: Program>(
     rt: &R,
     program: &P,
 ) -> ExitCode {
-    match obey(rt, program) {
+    match (Desk { rt, program }).obey() {
         Ok(status) => status,
         Err(reason) => {
             let _ = eprintln!(rt; "lotbook: {reason}");
@@ -38,52 +37,55 @@ pub fn run<R: Files + Env + Print + Eprint + AllocGlobal, P: Program>(
     }
 }
 
-// Does what the arguments say.
-fn obey<R: Files + Env + Print + Eprint + AllocGlobal, P: Program>(
-    rt: &R,
-    program: &P,
-) -> io::Result<ExitCode> {
-    let args = env::args(rt)?;
-    let count = args.len();
-    let mut words = args.skip(1);
-    let Some(word) = words.next() else {
-        return refuse(rt, "no command was given");
-    };
-    match word.as_str() {
-        "help" | "--help" | "-h" => {
-            print!(rt; "{}", program.help())?;
-            Ok(ExitCode::SUCCESS)
-        }
-        "check" | "show" if count == 2 => refuse(rt, "no file was given"),
-        "run" => match (words.next(), words.next()) {
-            (Some(script), None) => run_script(rt, program, script.as_str()),
-            _ => refuse(rt, "run takes one script"),
-        },
-        "check" => look_at_all(rt, program, Command::Check, words),
-        "show" => look_at_all(rt, program, Command::Show, words),
-        _ => refuse(rt, "there is no such command"),
-    }
+/// What all that is done needs: the system, and the program.
+#[derive(Drop)]
+pub(crate) struct Desk<'d, R, P> {
+    pub(crate) rt: &'d R,
+    pub(crate) program: &'d P,
 }
 
-// Says on standard error how the program is used.
-fn refuse<R: Eprint>(rt: &R, why: &str) -> io::Result<ExitCode> {
-    eprint!(rt; "lotbook: {why}\n{USAGE}")?;
-    Ok(ExitCode::FAILURE)
-}
-
-// Looks at every file. All has to be well with all of them; to show one, it is enough that it can be read.
-fn look_at_all<R: Files + Print + Eprint + AllocGlobal, P: Program>(
-    rt: &R,
-    program: &P,
-    command: Command,
-    paths: Skip<Args>,
-) -> io::Result<ExitCode> {
-    let mut status = ExitCode::SUCCESS;
-    for path in paths {
-        match (command, look(rt, program, command, path.as_str())?) {
-            (_, Seen::Good) | (Command::Show, Seen::Refused) => {}
-            (Command::Check, Seen::Refused) | (_, Seen::Unreadable) => status = ExitCode::FAILURE,
+impl<R: Files + Env + Print + Eprint + AllocGlobal, P: Program> Desk<'_, R, P> {
+    // Does what the arguments say.
+    fn obey(&self) -> io::Result<ExitCode> {
+        let args = env::args(self.rt)?;
+        let count = args.len();
+        let mut words = args.skip(1);
+        let Some(word) = words.next() else {
+            return self.refuse("no command was given");
+        };
+        match word.as_str() {
+            "help" | "--help" | "-h" => {
+                print!(self.rt; "{}", self.program.help())?;
+                Ok(ExitCode::SUCCESS)
+            }
+            "check" | "show" if count == 2 => self.refuse("no file was given"),
+            "run" => match (words.next(), words.next()) {
+                (Some(script), None) => self.run_script(script.as_str()),
+                _ => self.refuse("run takes one script"),
+            },
+            "check" => self.look_at_all(Command::Check, words),
+            "show" => self.look_at_all(Command::Show, words),
+            _ => self.refuse("there is no such command"),
         }
     }
-    Ok(status)
+
+    // Says on standard error how the program is used.
+    fn refuse(&self, why: &str) -> io::Result<ExitCode> {
+        eprint!(self.rt; "lotbook: {why}\n{USAGE}")?;
+        Ok(ExitCode::FAILURE)
+    }
+
+    // Looks at every file. All has to be well with all of them; to show one, it is enough that it can be read.
+    fn look_at_all(&self, command: Command, paths: Skip<Args>) -> io::Result<ExitCode> {
+        let mut status = ExitCode::SUCCESS;
+        for path in paths {
+            match (command, self.look(command, path.as_str())?) {
+                (_, Seen::Good) | (Command::Show, Seen::Refused) => {}
+                (Command::Check, Seen::Refused) | (_, Seen::Unreadable) => {
+                    status = ExitCode::FAILURE;
+                }
+            }
+        }
+        Ok(status)
+    }
 }

@@ -2,6 +2,7 @@
 ghost use Rattle.std.specs.Prelude.{◌≡◌, is_ok, if◌then◌else◌, IfOk};
 ghost use Rattle.desk.specs.declared.look.Seen.TheVariants.{Good, Refused};
 
+use crate::Desk;
 use report::listing::Listing;
 use report::verdict::{Found, Reason, Verdict};
 use std::fs;
@@ -53,18 +54,16 @@ pub fn print_verdict<R: Print, G: Found, E: Reason>(
     }
 }
 
-/// Does what the command says with one file, and answers what was seen of it.
-pub(crate) fn look<R: Files + Print + Eprint + AllocGlobal, P: Program>(
-    rt: &R,
-    program: &P,
-    command: Command,
-    path: &str,
-) -> io::Result<Seen> {
-    match read(rt, path) {
-        Ok(bytes) => program.tell(rt, command, path, bytes.as_slice()),
-        Err(reason) => {
-            eprintln!(rt; "lotbook: {path}: {reason}")?;
-            Ok(Seen::Unreadable)
+impl<R: Files + Print + Eprint + AllocGlobal, P: Program> Desk<'_, R, P> {
+    /// Does what the command says with one file, and answers what was seen of it.
+    pub(crate) fn look(&self, command: Command, path: &str) -> io::Result<Seen> {
+        let rt = self.rt;
+        match read(rt, path) {
+            Ok(bytes) => self.program.tell(rt, command, path, bytes.as_slice()),
+            Err(reason) => {
+                eprintln!(rt; "lotbook: {path}: {reason}")?;
+                Ok(Seen::Unreadable)
+            }
         }
     }
 }

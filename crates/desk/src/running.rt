@@ -1,8 +1,9 @@
 // Runs a script, line by line.
+use crate::Desk;
 use crate::books::AnyBook;
-use crate::look::{Command, Program, Seen, look};
+use crate::look::{Program, Seen};
 use crate::script::{Line, NoLine, column_name, parse};
-use book::calls::{Answer, Call};
+use book::calls::Answer;
 use book::values::Entry;
 use finding::Numbered;
 use std::alloc::AllocError;
@@ -57,69 +58,62 @@ impl From<io::Error> for LineError {
     }
 }
 
-/// Does what the lines of a script say. It ends at the first line that cannot be done, which is named on standard error; what was
-/// printed before stands.
-pub(crate) fn run_script<R: Files + Print + Eprint + AllocGlobal, P: Program>(
-    rt: &R,
-    program: &P,
-    path: &str,
-) -> io::Result<ExitCode> {
-    let script = match fs::read_to_string(rt, path) {
-        Ok(script) => script,
-        Err(reason) => {
-            eprintln!(rt; "lotbook: {path}: {reason}")?;
-            return Ok(ExitCode::FAILURE);
-        }
-    };
-    let mut open = None;
-    for (n, line) in script.as_str().lines().enumerate() {
-        match do_line(rt, program, &mut open, line) {
-            Ok(()) => {}
-            Err(LineError::Output(reason)) => return Err(reason),
-            Err(why) => {
-                complain(rt, path, n, line, why)?;
+impl<R: Files + Print + Eprint + AllocGlobal, P: Program> Desk<'_, R, P> {
+    /// Does what the lines of a script say. It ends at the first line that cannot be done, which is named on standard error; what
+    /// was printed before stands.
+    pub(crate) fn run_script(&self, path: &str) -> io::Result<ExitCode> {
+        let rt = self.rt;
+        let script = match fs::read_to_string(rt, path) {
+            Ok(script) => script,
+            Err(reason) => {
+                eprintln!(rt; "lotbook: {path}: {reason}")?;
                 return Ok(ExitCode::FAILURE);
             }
+        };
+        let mut open = None;
+        for (n, line) in script.as_str().lines().enumerate() {
+            match self.do_line(&mut open, line) {
+                Ok(()) => {}
+                Err(LineError::Output(reason)) => return Err(reason),
+                Err(why) => {
+                    complain(rt, path, n, line, why)?;
+                    return Ok(ExitCode::FAILURE);
+                }
+            }
         }
+        Ok(ExitCode::SUCCESS)
     }
-    Ok(ExitCode::SUCCESS)
+
+    // Does what a line says with the book that is open.
+    fn do_line(&self, open: &mut Option<AnyBook>, line: &str) -> Result<(), LineError> {
+        let rt = self.rt;
+        match parse(line)? {
+            None => {}
+            Some(Line::Table(rows)) => open_new(rt, open, AnyBook::table(rt.alloc(), rows)?)?,
+            Some(Line::Slips(lots, slips)) => {
+                open_new(rt, open, AnyBook::slips(rt.alloc(), lots, slips)?)?;
+            }
+            Some(Line::Call(call)) => {
+                let book = open.as_mut().ok_or(LineError::NoBook)?;
+                print_answer(rt, book.call(call))?;
+            }
+            Some(Line::Dump) => {
+                let book = open.as_ref().ok_or(LineError::NoBook)?;
+                print_values(rt, book)?;
+            }
+            Some(Line::Look(command, path)) => match self.look(command, path)? {
+                Seen::Good | Seen::Refused => {}
+                Seen::Unreadable => return Err(LineError::Unreadable),
+            },
+        }
+        Ok(())
+    }
 }
 
 fn complain<R: Eprint>(rt: &R, path: &str, n: usize, line: &str, why: LineError) -> io::Result<()> {
     let number = n.saturating_add(1);
     let line = Shown(line.as_bytes());
     eprintln!(rt; "lotbook: {path}: line {number}, \"{line}\", {why}")
-}
-
-// Does what a line says with the book that is open.
-fn do_line<R: Files + Print + Eprint + AllocGlobal, P: Program>(
-    rt: &R,
-    program: &P,
-    open: &mut Option<AnyBook>,
-    line: &str,
-) -> Result<(), LineError> {
-    match parse(line)? {
-        None => {}
-        Some(Line::Table(rows)) => open_new(rt, open, AnyBook::table(rt.alloc(), rows)?)?,
-        Some(Line::Slips(lots, slips)) => open_new(
-            rt,
-            open,
-            AnyBook::slips(rt.alloc(), lots, slips)?,
-        )?,
-        Some(Line::Call(call)) => {
-            let book = open.as_mut().ok_or(LineError::NoBook)?;
-            print_answer(rt, book.call(call))?;
-        }
-        Some(Line::Dump) => {
-            let book = open.as_ref().ok_or(LineError::NoBook)?;
-            print_values(rt, book)?;
-        }
-        Some(Line::Look(command, path)) => match look(rt, program, command, path)? {
-            Seen::Good | Seen::Refused => {}
-            Seen::Unreadable => return Err(LineError::Unreadable),
-        },
-    }
-    Ok(())
 }
 
 // The new book takes the place of the one that was open.
