@@ -1,7 +1,7 @@
 -- What a caller may rely on, whatever a book is made of.
 --
 -- The laws are said over a meaning, so that they hold of every make. The last is said of two books by what they did.
-use Rattle.std.specs.Prelude.{◌≡◌, ℕ, suc, ◌<◌, true, List, ℤ, pos, Some, Ok, Err}
+use Rattle.std.specs.Prelude.{◌≡◌, ℕ, suc, ◌<◌, true, List, ℤ, pos, Some, Ok, Err, Result}
 use Rattle.book.specs.Meanings.{Meaning, put_answer, put_after, get_answer}
 use Rattle.book.specs.Calls.{answer_of, after, after_all}
 use Rattle.book.specs.declared.fault.BookFault.{BookFault}
@@ -36,7 +36,7 @@ PlaceStays =
 -- as the contract of the call says.
 pub record History (calls : ℕ → Call) : Type 0 where
   pub meaning : ℕ → Meaning
-  pub answer : ℕ → Answer
+  pub answer : ℕ → Result Answer BookFault
   pub answered : (n : ℕ) → answer n ≡ answer_of (meaning n) (calls n)
   pub kept : (n : ℕ) → meaning (suc n) ≡ after (meaning n) (calls n)
 

@@ -1,9 +1,13 @@
 -- The values of a book as one list, by lot and then by column.
-use Rattle.std.specs.Prelude.{ℕ, zero, suc, List, [], ◌∷◌, ◌++◌, ℤ, Some, None, Option}
+use Rattle.std.specs.Prelude.{ℕ, zero, suc, List, [], ◌∷◌, ◌++◌, ℤ, Some, None, Option, option_map}
 use Rattle.book.specs.Meanings.{Meaning}
 use Rattle.book.specs.declared.values.Entry.{Entry}
 
 -- The entry of lot l and column c, where there is a value.
+abbrev pub entry_of : ℕ → ℕ → Option ℤ → Option Entry
+entry_of l c = option_map (λ v. record { lot = l; column = c; value = v })
+
+-- The list of it.
 abbrev pub entry : ℕ → ℕ → Option ℤ → List Entry
 entry l c (Some v) = record { lot = l; column = c; value = v } ∷ []
 entry l c None = []

@@ -5,6 +5,7 @@ ghost use Rattle.book.specs.Calls.{answer_of, after, answers, after_all};
 use crate::Book;
 use crate::fault::BookFault;
 use std::alloc::{AllocError, Global};
+use std::fmt;
 
 /// A call of a book.
 #[derive(Clone, Copy, PartialEq, Eq, Debug)]
@@ -14,38 +15,41 @@ pub enum Call {
     Lots,
 }
 
-/// What a book answers to a call.
+/// What a book answers to a call that it does not refuse.
 #[derive(Clone, Copy, PartialEq, Eq, Debug)]
 pub enum Answer {
     /// the put is done
     Done,
-    /// the value that a get found
-    Value(i32),
-    /// a get found no value
-    Empty,
+    /// the value that a get found, or that there is none
+    Value(Option<i32>),
     /// the number of lots
     Lots(u32),
-    /// the call is refused
-    Refused(BookFault),
 }
 
-/// Makes one call of a book, and gives its answer.
-pub fn make_call<B: Book>(book: &mut B, call: Call) -> Answer
+impl fmt::Display for Answer {
+    fn fmt<W: fmt::Write>(&self, f: &mut fmt::Formatter<W>) -> fmt::Result {
+        match self {
+            Answer::Done => f.write_str("done"),
+            Answer::Value(Some(value)) => write!(f, "value {value}"),
+            Answer::Value(None) => f.write_str("none"),
+            Answer::Lots(lots) => write!(f, "lots {lots}"),
+        }
+    }
+}
+
+/// Makes one call of a book, and gives its answer, or why it is refused.
+pub fn make_call<B: Book>(book: &mut B, call: Call) -> Result<Answer, BookFault>
     ensures answer { result ≡ answer_of (B.Book.meaning book.old) call }
     ensures after { B.Book.meaning book.new ≡ after (B.Book.meaning book.old) call }
 {
-    match call {
-        Call::Put { column, lot, value } => match book.put(column, lot, value) {
-            Ok(()) => Answer::Done,
-            Err(fault) => Answer::Refused(fault),
-        },
-        Call::Get { column, lot } => match book.get(column, lot) {
-            Ok(Some(value)) => Answer::Value(value),
-            Ok(None) => Answer::Empty,
-            Err(fault) => Answer::Refused(fault),
-        },
+    Ok(match call {
+        Call::Put { column, lot, value } => {
+            book.put(column, lot, value)?;
+            Answer::Done
+        }
+        Call::Get { column, lot } => Answer::Value(book.get(column, lot)?),
         Call::Lots => Answer::Lots(book.lots()),
-    }
+    })
 }
 
 /// Makes the calls one after another, and gives their answers.
@@ -55,14 +59,13 @@ pub fn make_calls<B: Book>(
     heap: Global,
     book: &mut B,
     calls: &[Call],
-) -> Result<Vec<Answer>, AllocError>
+) -> Result<Vec<Result<Answer, BookFault>>, AllocError>
     ensures told { IfOk result (λ told. told.items ≡ answers (B.Book.meaning book.old) calls.now) }
     ensures after { MatchResult result (λ _. B.Book.meaning book.new ≡ after_all (B.Book.meaning book.old) calls.now) (λ _. B.Book.meaning book.new ≡ B.Book.meaning book.old) }
 {
     let mut told = Vec::with_capacity(heap, calls.len())?;
     for call in calls {
-        let said = make_call(book, *call);
-        told.push_reserved(said);
+        told.push_reserved(make_call(book, *call));
     }
     Ok(told)
 }

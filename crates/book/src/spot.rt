@@ -6,7 +6,7 @@ use crate::COLUMNS;
 use crate::fault::BookFault;
 
 /// A column and a lot. `find_spot` gives only those that a book has.
-#[derive(Clone, Copy)]
+#[derive(Clone, Copy, PartialEq, Eq, Hash, Debug)]
 pub struct Spot {
     pub column: u32,
     pub lot: u32,
@@ -22,12 +22,7 @@ pub fn find_spot(lots: u32, column: u32, lot: i32) -> Result<Spot, BookFault>
     if column >= COLUMNS {
         return Err(BookFault::Column);
     }
-    if lot < 0 {
-        return Err(BookFault::Lot);
-    }
-    let lot = lot as u32;
-    if lot >= lots {
-        return Err(BookFault::Lot);
-    }
+    let there = u32::try_from(lot).ok().filter(|lot| *lot < lots);
+    let lot = there.ok_or(BookFault::Lot)?;
     Ok(Spot { column, lot })
 }

@@ -1,6 +1,6 @@
 // All values of a book, by lot and then by column.
 ghost use Rattle.std.specs.Prelude.{◌≡◌, ◌<◌, ◌++◌, IfOk, OnOk};
-ghost use Rattle.book.specs.Values.{entry, in_columns, all_values};
+ghost use Rattle.book.specs.Values.{entry_of, in_columns, all_values};
 
 use crate::{Book, COLUMNS};
 use std::alloc::{AllocError, Global};
@@ -29,29 +29,14 @@ fn add_lot<B: Book>(found: &mut Vec<Entry>, book: &B, lot: u32) -> Result<(), Al
     requires { lot < (B.Book.meaning book.now).lots }
     ensures { OnOk result (found.new.items ≡ found.old.items ++ in_columns (B.Book.meaning book.now) lot 8) }
 {
-    for column in 0..COLUMNS {
-        add(found, lot, column, value_at(book, column, lot))?;
-    }
-    Ok(())
+    found.extend((0..COLUMNS).filter_map(|column| entry_at(book, column, lot)))
 }
 
-// The value of a column and a lot that the book has.
-fn value_at<B: Book>(book: &B, column: u32, lot: u32) -> Option<i32>
+// The value of a column and a lot that the book has, as an entry.
+fn entry_at<B: Book>(book: &B, column: u32, lot: u32) -> Option<Entry>
     requires { (column < 8) × (lot < (B.Book.meaning book.now).lots) }
-    ensures { result ≡ (B.Book.meaning book.now).value column lot }
+    ensures { result ≡ entry_of lot column ((B.Book.meaning book.now).value column lot) }
 {
-    match book.get(column, lot as i32) {
-        Ok(value) => value,
-        Err(_) => None,
-    }
-}
-
-// Adds a value, if there is one.
-fn add(found: &mut Vec<Entry>, lot: u32, column: u32, value: Option<i32>) -> Result<(), AllocError>
-    ensures { OnOk result (found.new.items ≡ found.old.items ++ entry lot column value) }
-{
-    if let Some(value) = value {
-        found.push(Entry { lot, column, value })?;
-    }
-    Ok(())
+    let value = book.get(column, lot as i32).ok().flatten()?;
+    Some(Entry { lot, column, value })
 }

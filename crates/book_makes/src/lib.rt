@@ -4,6 +4,5 @@
 // book is made, so a call never wants any.
 #![tactic(auto)]
 
-mod slip;
 pub mod slips;
 pub mod table;

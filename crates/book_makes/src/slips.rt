@@ -1,22 +1,22 @@
 // A book as slips: each slip in use is a place, the others are free.
-ghost use Rattle.std.specs.Prelude.{◌≡◌, ◌≤◌, true, vec_len, vec_capacity};
-ghost use Rattle.book_makes.specs.Piles.{single};
+ghost use Rattle.std.specs.Prelude.{◌+◌, ◌≤◌};
+ghost use Rattle.std.specs.HashMap.{hash_map_len, spare};
 
-use crate::slip::Slip;
+use book::spot::Spot;
+use std::collections::HashMap;
 
 pub mod calls;
 
 /// A book of a given number of slips. A column and a lot have a place once a slip of theirs is filled in; the slips that are not
 /// filled in are free. No two slips are of one column and lot.
 ///
-/// `put` and `get` look through the slips.
+/// The slips are a map from spots to values. It has the room for all of them from the first, so `put` never asks for memory.
 #[derive(Drop)]
 pub struct SlipsBook {
     lots: u32,
     most: u32,
-    pile: Vec<Slip>,
+    slips: HashMap<Spot, i32>,
     ghost few: { lots ≤ 4096 },
-    ghost within: { vec_len pile ≤ most },
-    ghost room: { most ≤ vec_capacity pile },
-    ghost one: { single pile.items ≡ true },
+    ghost within: { hash_map_len slips ≤ most },
+    ghost room: { most ≤ hash_map_len slips + spare slips },
 }

@@ -13,16 +13,16 @@ mod tests {
     use std::test::Fail;
 
     // On a book of two lots with places enough.
-    const CALLS: [(Call, Answer); 14] = [
-        (Call::Lots, Answer::Lots(2)),
-        (Call::Get { column: 0, lot: 0 }, Answer::Empty),
+    const CALLS: [(Call, Result<Answer, BookFault>); 14] = [
+        (Call::Lots, Ok(Answer::Lots(2))),
+        (Call::Get { column: 0, lot: 0 }, Ok(Answer::Value(None))),
         (
             Call::Put {
                 column: 7,
                 lot: 1,
                 value: 5,
             },
-            Answer::Done,
+            Ok(Answer::Done),
         ),
         (
             Call::Put {
@@ -30,7 +30,7 @@ mod tests {
                 lot: 1,
                 value: -8,
             },
-            Answer::Done,
+            Ok(Answer::Done),
         ),
         (
             Call::Put {
@@ -38,27 +38,27 @@ mod tests {
                 lot: 0,
                 value: 0,
             },
-            Answer::Done,
+            Ok(Answer::Done),
         ),
-        (Call::Get { column: 7, lot: 1 }, Answer::Value(5)),
-        (Call::Get { column: 7, lot: 0 }, Answer::Empty),
+        (Call::Get { column: 7, lot: 1 }, Ok(Answer::Value(Some(5)))),
+        (Call::Get { column: 7, lot: 0 }, Ok(Answer::Value(None))),
         (
             Call::Put {
                 column: 7,
                 lot: 1,
                 value: 6,
             },
-            Answer::Done,
+            Ok(Answer::Done),
         ),
-        (Call::Get { column: 7, lot: 1 }, Answer::Value(6)),
-        (Call::Get { column: 0, lot: 1 }, Answer::Value(-8)),
+        (Call::Get { column: 7, lot: 1 }, Ok(Answer::Value(Some(6)))),
+        (Call::Get { column: 0, lot: 1 }, Ok(Answer::Value(Some(-8)))),
         (
             Call::Put {
                 column: 8,
                 lot: -1,
                 value: 1,
             },
-            Answer::Refused(BookFault::Column),
+            Err(BookFault::Column),
         ),
         (
             Call::Put {
@@ -66,28 +66,22 @@ mod tests {
                 lot: -1,
                 value: 1,
             },
-            Answer::Refused(BookFault::Lot),
+            Err(BookFault::Lot),
         ),
-        (
-            Call::Get { column: 0, lot: 2 },
-            Answer::Refused(BookFault::Lot),
-        ),
-        (
-            Call::Get { column: 8, lot: 0 },
-            Answer::Refused(BookFault::Column),
-        ),
+        (Call::Get { column: 0, lot: 2 }, Err(BookFault::Lot)),
+        (Call::Get { column: 8, lot: 0 }, Err(BookFault::Column)),
     ];
 
     // On a book of more lots than there can be, and of one slip.
-    const FEW: [(Call, Answer); 6] = [
-        (Call::Lots, Answer::Lots(4096)),
+    const FEW: [(Call, Result<Answer, BookFault>); 6] = [
+        (Call::Lots, Ok(Answer::Lots(4096))),
         (
             Call::Put {
                 column: 1,
                 lot: 4095,
                 value: 3,
             },
-            Answer::Done,
+            Ok(Answer::Done),
         ),
         (
             Call::Put {
@@ -95,7 +89,7 @@ mod tests {
                 lot: 4095,
                 value: 3,
             },
-            Answer::Refused(BookFault::NoPlace),
+            Err(BookFault::NoPlace),
         ),
         (
             Call::Put {
@@ -103,25 +97,29 @@ mod tests {
                 lot: 4095,
                 value: 4,
             },
-            Answer::Done,
+            Ok(Answer::Done),
         ),
         (
             Call::Get {
                 column: 1,
                 lot: 4095,
             },
-            Answer::Value(4),
+            Ok(Answer::Value(Some(4))),
         ),
         (
             Call::Get {
                 column: 2,
                 lot: 4095,
             },
-            Answer::Empty,
+            Ok(Answer::Value(None)),
         ),
     ];
 
-    fn answers_are<B: Book>(rt: &impl Abort, book: &mut B, table: &[(Call, Answer)]) {
+    fn answers_are<B: Book>(
+        rt: &impl Abort,
+        book: &mut B,
+        table: &[(Call, Result<Answer, BookFault>)],
+    ) {
         for (call, answer) in table {
             assert_eq!(rt; make_call(book, *call), *answer);
         }
@@ -136,6 +134,26 @@ mod tests {
         let listed = values(rt.alloc(), &table)?;
         assert_eq!(rt; listed.len(), 3);
         assert_eq!(rt; listed, values(rt.alloc(), &slips)?);
+        Ok(())
+    }
+
+    #[test]
+    fn answers_print(rt: HostRuntime) -> Result<(), Fail> {
+        let heap = rt.alloc();
+        assert_eq!(rt; format!(in heap; "{}", Answer::Done)?.as_str(), "done");
+        assert_eq!(rt;
+            format!(in heap; "{}", Answer::Value(Some(5)))?.as_str(),
+            "value 5"
+        );
+        assert_eq!(rt;
+            format!(in heap; "{}", Answer::Value(None))?.as_str(),
+            "none"
+        );
+        assert_eq!(rt; format!(in heap; "{}", Answer::Lots(2))?.as_str(), "lots 2");
+        assert_eq!(rt;
+            format!(in heap; "{}", BookFault::NoPlace)?.as_str(),
+            "no place is free"
+        );
         Ok(())
     }
 
