@@ -1,5 +1,6 @@
 // The book that a script works on, of either make.
 use book::calls::{Answer, Call, make_call};
+use book::fault::BookFault;
 use book::values::{Entry, values};
 use book_makes::slips::SlipsBook;
 use book_makes::table::TableBook;
@@ -24,7 +25,7 @@ impl AnyBook {
     }
 
     /// Makes a call of the book.
-    pub(crate) fn call(&mut self, call: Call) -> Answer {
+    pub(crate) fn call(&mut self, call: Call) -> Result<Answer, BookFault> {
         match self {
             AnyBook::Table(book) => make_call(book, call),
             AnyBook::Slips(book) => make_call(book, call),

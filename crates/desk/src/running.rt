@@ -4,6 +4,7 @@ use crate::books::AnyBook;
 use crate::look::{Program, Seen};
 use crate::script::{Line, NoLine, column_name, parse};
 use book::calls::Answer;
+use book::fault::BookFault;
 use book::values::Entry;
 use finding::Numbered;
 use std::alloc::AllocError;
@@ -122,16 +123,10 @@ fn open_new<R: Print>(rt: &R, open: &mut Option<AnyBook>, book: AnyBook) -> io::
     println!(rt; "done")
 }
 
-fn print_answer<R: Print>(rt: &R, answer: Answer) -> io::Result<()> {
+fn print_answer<R: Print>(rt: &R, answer: Result<Answer, BookFault>) -> io::Result<()> {
     match answer {
-        Answer::Done => println!(rt; "done"),
-        Answer::Value(value) => println!(rt; "value {value}"),
-        Answer::Empty => println!(rt; "none"),
-        Answer::Lots(lots) => println!(rt; "lots {lots}"),
-        Answer::Refused(fault) => {
-            let number = fault.number_of();
-            println!(rt; "refused {number} 0")
-        }
+        Ok(answer) => println!(rt; "{answer}"),
+        Err(fault) => println!(rt; "refused {} 0", fault.number_of()),
     }
 }
 

@@ -4,7 +4,7 @@
 use crate::verdict::{Found, Verdict};
 use layout::items::Items;
 use layout::reader::{Part, Reader};
-use nodes::bytes::u16_at;
+use nodes::bytes::{tail, u16_at};
 use std::fmt;
 use wording::text::{Phrase, Piece, Shown};
 use wording::words::MOST_NODES;
@@ -48,10 +48,9 @@ struct Texts<'a>(Items<'a>, &'static str);
 
 impl fmt::Display for Texts<'_> {
     fn fmt<W: fmt::Write>(&self, f: &mut fmt::Formatter<W>) -> fmt::Result {
-        let Texts(items, quote) = self;
-        for k in 0..items.count() {
-            let text = Shown(items.text(k).unwrap_or(&[]));
-            writeln!(f, "  {k:>3} {quote}{text}{quote}")?;
+        let Texts(items, quote) = *self;
+        for (k, item) in items.enumerate() {
+            writeln!(f, "  {k:>3} {quote}{}{quote}", Shown(tail(item)))?;
         }
         Ok(())
     }

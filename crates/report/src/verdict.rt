@@ -169,7 +169,7 @@ impl Found for Rule<'_> {
 
 // The type of an expression that has one.
 fn type_mark<'a>(rule: &Rule, kind: Kind, i: u32) -> Option<Piece<'a>> {
-    if kind.number() < 17 || 24 < kind.number() {
+    if !kind.is_expression() {
         return None;
     }
     let words = match rule.type_of(i as usize)? {
@@ -182,16 +182,9 @@ fn type_mark<'a>(rule: &Rule, kind: Kind, i: u32) -> Option<Piece<'a>> {
 
 // The node that declares the name of a node that uses one.
 fn declared_mark<'a>(rule: &Rule, kind: Kind, i: u32) -> Option<Piece<'a>> {
-    if !uses_name(kind) {
+    if !kind.uses_name() {
         return None;
     }
     let declaration = rule.meant(i as usize)?;
     Some(Piece::count(", declared at node ", declaration, ""))
-}
-
-fn uses_name(kind: Kind) -> bool {
-    matches!(
-        kind,
-        Kind::For | Kind::ScalarLocation | Kind::ArrayLocation | Kind::Call | Kind::Len
-    )
 }

@@ -124,12 +124,7 @@ fn miscounted<'a>(length: u32) -> Piece<'a> {
 
 // Item `k` of a body, with its length byte.
 fn item_at<'a>(mut items: Items<'a>, k: u32) -> &'a [u8] {
-    for _ in 0..k {
-        if items.next_item().is_none() {
-            return &[];
-        }
-    }
-    items.next_item().unwrap_or(&[])
+    items.nth(k as usize).unwrap_or(&[])
 }
 
 // Whether an item has as many bytes as its length byte says.
@@ -161,9 +156,12 @@ fn name_text<'a>(text: &'a [u8]) -> Piece<'a> {
 
 fn repeated<'a>(reader: Reader<'a>, k: u32) -> Phrase<'a> {
     let text = reader.name(k).unwrap_or(&[]);
-    let lower = (0..k).find(|lower| reader.name(*lower).unwrap_or(&[]) == text);
+    let lower = reader
+        .names()
+        .take(k as usize)
+        .position(|item| tail(item) == text);
     let other = match lower {
-        Some(lower) => Piece::Number(", and so is name ", lower as i64, ""),
+        Some(lower) => Piece::count(", and so is name ", lower, ""),
         None => Piece::Words(", and so is a lower name"),
     };
     Phrase::two(Piece::Bytes("is \"", text, "\""), other)
@@ -262,7 +260,7 @@ fn children<'a>(reader: Reader<'a>, i: u32) -> Phrase<'a> {
         Some(node) => node.kind,
         None => Kind::Program,
     };
-    if i == 0 && kind.number() != 1 {
+    if i == 0 && kind != Kind::Program {
         return Phrase::one(Piece::Words("the place of the program, and is none"));
     }
     Phrase::two(

@@ -61,7 +61,7 @@ fn method_around(reader: Reader, i: u32) -> Option<Node> {
 fn method_at(reader: Reader, i: u32) -> Option<Node> {
     reader
         .node(i as usize)
-        .filter(|node| matches!(node.kind, Kind::Method))
+        .filter(|node| node.kind == Kind::Method)
 }
 
 // What is wrong with the node, in words that end a sentence or that the evidence ends.
@@ -134,13 +134,9 @@ fn first_declaring(reader: Reader, i: u32) -> Option<u32> {
 
 // Whether node `i` declares the name.
 fn declares(reader: Reader, i: u32, name: u8) -> bool {
-    match reader.node(i as usize) {
-        Some(node) => {
-            let number = node.kind.number();
-            2 <= number && number <= 6 && node.name == name
-        }
-        None => false,
-    }
+    reader
+        .node(i as usize)
+        .is_some_and(|node| node.kind.declares_name() && node.name == name)
 }
 
 // The node whose scope a declaration stands in: its parent, but of a method's body block the method.
@@ -175,8 +171,8 @@ fn own_cells(reader: Reader) -> i64 {
 
 fn cells_at(reader: Reader, i: u32) -> i64 {
     match reader.node(i as usize) {
-        Some(node) if matches!(node.kind, Kind::ScalarDeclaration) => 1,
-        Some(node) if matches!(node.kind, Kind::ArrayDeclaration) => node.value,
+        Some(node) if node.kind == Kind::ScalarDeclaration => 1,
+        Some(node) if node.kind == Kind::ArrayDeclaration => node.value,
         _ => 0,
     }
 }

@@ -112,9 +112,13 @@ pub fn children(kind: Kind) -> &'static str {
 
 // What the tags of a kind say, from 0 on: each word after a space.
 const TYPES: [&str; 4] = [" void", " int", " long", " bool"];
+
 const ASSIGNMENTS: [&str; 6] = [" =", " +=", " -=", " *=", " /=", " %="];
+
 const STEPS: [&str; 2] = [" ++", " --"];
+
 const SIGNS: [&str; 2] = [" -", " !"];
+
 const OPERATORS: [&str; 13] = [
     " +", " -", " *", " /", " %", " <", " >", " <=", " >=", " ==", " !=", " &&", " ||",
 ];
@@ -186,7 +190,7 @@ fn value_of<'a>(reader: Reader<'a>, node: Node) -> Piece<'a> {
         Value::Typed => literal(node.tag, value),
         Value::StringNumber => string_of(reader, value),
         Value::Zero if value != 0 => Piece::Number(" value ", value, ""),
-        Value::Zero if matches!(node.kind, Kind::ArrayLocation) => Piece::Words("[]"),
+        Value::Zero if node.kind == Kind::ArrayLocation => Piece::Words("[]"),
         Value::Zero => Piece::default(),
     }
 }
@@ -221,7 +225,10 @@ fn literal<'a>(tag: u8, value: i64) -> Piece<'a> {
 }
 
 fn string_of<'a>(reader: Reader<'a>, value: i64) -> Piece<'a> {
-    match u8::try_from(value).ok().and_then(|k| reader.string(k as u32)) {
+    match u8::try_from(value)
+        .ok()
+        .and_then(|k| reader.string(k as u32))
+    {
         Some(text) => Piece::Bytes(" \"", text, "\""),
         None => Piece::Number(" ", value, "?"),
     }
