@@ -1,25 +1,10 @@
 // Lotbook on the command line: checks rule files, shows what they hold, and works on books of lots by a script.
 #![tactic(auto)]
 
-use crate::running::run_script;
-use report::listing::Listing;
+use desk::look::{Command, Program, Seen, print_verdict};
 use report::verdict::Verdict;
-use std::env::Args;
-use std::io::Read;
-use std::iter::Skip;
+use std::io::{self, Print};
 use std::process::ExitCode;
-use std::{env, fs, io};
-use wording::words::MOST_BYTES;
-
-mod books;
-mod running;
-mod script;
-
-const USAGE: &str = "usage: lotbook check FILE...
-       lotbook show FILE...
-       lotbook run SCRIPT
-       lotbook help
-";
 
 const HELP: &str = "lotbook checks and shows rule files, and keeps books of lots.
 
@@ -59,106 +44,19 @@ example:
   micron.rule: good, 13 nodes, 3 names, 1 strings
 ";
 
-/// What is done with each file.
-#[derive(Clone, Copy)]
-enum Command {
-    Check,
-    Show,
-}
+/// The program, which looks at the rules of the language too.
+struct Lotbook;
 
-/// What was seen of a file.
-#[derive(Clone, Copy)]
-enum Seen {
-    Good,
-    Refused,
-    Unreadable,
-}
+impl Program for Lotbook {
+    fn help(&self) -> &'static str {
+        HELP
+    }
 
-/// The bytes of a file, but no more than one past the most that a rule file has: a longer one is refused by its size, and
-/// need not be held in memory.
-fn read(rt: &HostRuntime, path: &str) -> io::Result<Vec<u8>> {
-    let mut bytes = Vec::new(rt.alloc());
-    let mut file = fs::open(rt, path)?.take(MOST_BYTES as u64 + 1);
-    file.read_to_end(&mut bytes)?;
-    Ok(bytes)
-}
-
-/// Does what the command says with one file, and answers what was seen of it.
-fn look(rt: &HostRuntime, command: Command, path: &str) -> io::Result<Seen> {
-    match read(rt, path) {
-        Ok(bytes) => tell(rt, command, path, &Verdict::on(bytes.as_slice())),
-        Err(reason) => {
-            eprintln!(rt; "lotbook: {path}: {reason}")?;
-            Ok(Seen::Unreadable)
-        }
+    fn tell<R: Print>(&self, rt: &R, command: Command, path: &str, file: &[u8]) -> io::Result<Seen> {
+        print_verdict(rt, command, path, &Verdict::on(file))
     }
 }
 
-/// Prints what the command asks for of a file that was read.
-fn tell(rt: &HostRuntime, command: Command, path: &str, verdict: &Verdict) -> io::Result<Seen> {
-    match command {
-        Command::Check => println!(rt; "{path}: {verdict}")?,
-        Command::Show => println!(rt; "{path}: {}{path}: {verdict}", Listing(verdict))?,
-    }
-    if verdict.is_good() {
-        Ok(Seen::Good)
-    } else {
-        Ok(Seen::Refused)
-    }
-}
-
-/// Looks at every file, and answers whether all is well with all of them.
-fn look_at_all(rt: &HostRuntime, command: Command, paths: Skip<Args>) -> io::Result<bool> {
-    let mut is_well = true;
-    for path in paths {
-        is_well = match (command, look(rt, command, path.as_str())?) {
-            (_, Seen::Good) => is_well,
-            (Command::Show, Seen::Refused) => is_well,
-            (Command::Check, Seen::Refused) => false,
-            (_, Seen::Unreadable) => false,
-        };
-    }
-    Ok(is_well)
-}
-
-/// Says on standard error how the program is used.
-fn refuse(rt: &HostRuntime, why: &str) -> io::Result<bool> {
-    eprint!(rt; "lotbook: {why}\n{USAGE}")?;
-    Ok(false)
-}
-
-/// Runs the program, and answers whether all is well.
-fn run(rt: &HostRuntime) -> io::Result<bool> {
-    let args = env::args(rt)?;
-    let count = args.len();
-    let mut words = args.skip(1);
-    let Some(word) = words.next() else {
-        return refuse(rt, "no command was given");
-    };
-    match word.as_str() {
-        "help" | "--help" | "-h" => {
-            print!(rt; "{HELP}")?;
-            Ok(true)
-        }
-        "check" | "show" if count == 2 => refuse(rt, "no file was given"),
-        "run" => match (words.next(), words.next()) {
-            (Some(script), None) => run_script(rt, script.as_str()),
-            _ => refuse(rt, "run takes one script"),
-        },
-        "check" => look_at_all(rt, Command::Check, words),
-        "show" => look_at_all(rt, Command::Show, words),
-        _ => refuse(rt, "there is no such command"),
-    }
-}
-
-/// The process ends with status 1 where something was wrong, which has been said.
 fn main(rt: HostRuntime) -> ExitCode {
-    match run(&rt) {
-        Ok(true) => ExitCode::SUCCESS,
-        Ok(false) => ExitCode::FAILURE,
-        Err(reason) => {
-            let _ = eprintln!(rt; "lotbook: {reason}");
-            ExitCode::FAILURE
-        }
-    }
+    desk::run(&rt, &Lotbook)
 }

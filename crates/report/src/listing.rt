@@ -1,10 +1,10 @@
 // The listing of a file: its length, its contents, its names and strings, and its nodes as an indented tree.
 //
 // A damaged file is listed as far as it goes. The listing of a rule tells types and declarations too.
-use crate::verdict::Verdict;
+use crate::verdict::{Found, Verdict};
 use layout::items::Items;
 use layout::reader::{Part, Reader};
-use nodes::bytes::u16_at;
+use nodes::bytes::{tail, u16_at};
 use std::fmt;
 use wording::text::{Phrase, Piece, Shown};
 use wording::words::MOST_NODES;
@@ -15,10 +15,10 @@ const MOST_DEPTH: usize = 64;
 
 /// All that a file of any bytes holds, line by line, with what the verdict on it tells of its nodes.
 #[derive(Drop)]
-pub struct Listing<'v, 'a>(pub &'v Verdict<'a>);
+pub struct Listing<'v, 'a, G, R>(pub &'v Verdict<'a, G, R>);
 
 // Sentences name the line of a node, by `words::node_line`: a line more or less above the nodes is to be counted there.
-impl fmt::Display for Listing<'_, '_> {
+impl<G: Found, R> fmt::Display for Listing<'_, '_, G, R> {
     fn fmt<W: fmt::Write>(&self, f: &mut fmt::Formatter<W>) -> fmt::Result {
         let reader = self.0.reader();
         let contents = reader.contents();
@@ -30,8 +30,8 @@ impl fmt::Display for Listing<'_, '_> {
         write!(
             f,
             "names:\n{}strings:\n{}",
-            Names(reader.names()),
-            Strings(reader.strings())
+            Texts(reader.names(), ""),
+            Texts(reader.strings(), "\"")
         )?;
         write!(f, "nodes:\n{}{}", Nodes(self.0), not_shown(reader))
     }
@@ -42,40 +42,28 @@ fn part_words<'a>(words: &'static str, part: Part) -> Phrase<'a> {
     Phrase::two(offset, Piece::Number(", length ", part.length as i64, "\n"))
 }
 
+// The texts of items, each with its number and in such quotes.
 #[derive(Drop)]
-struct Names<'a>(Items<'a>);
+struct Texts<'a>(Items<'a>, &'static str);
 
-impl fmt::Display for Names<'_> {
+impl fmt::Display for Texts<'_> {
     fn fmt<W: fmt::Write>(&self, f: &mut fmt::Formatter<W>) -> fmt::Result {
-        for k in 0..self.0.count() {
-            writeln!(f, "  {k:>3} {}", Shown(self.0.text(k).unwrap_or(&[])))?;
+        let Texts(items, quote) = *self;
+        for (k, item) in items.enumerate() {
+            writeln!(f, "  {k:>3} {quote}{}{quote}", Shown(tail(item)))?;
         }
         Ok(())
     }
 }
 
 #[derive(Drop)]
-struct Strings<'a>(Items<'a>);
+struct Nodes<'v, 'a, G, R>(&'v Verdict<'a, G, R>);
 
-impl fmt::Display for Strings<'_> {
-    fn fmt<W: fmt::Write>(&self, f: &mut fmt::Formatter<W>) -> fmt::Result {
-        for k in 0..self.0.count() {
-            writeln!(f, "  {k:>3} \"{}\"", Shown(self.0.text(k).unwrap_or(&[])))?;
-        }
-        Ok(())
-    }
-}
-
-#[derive(Drop)]
-struct Nodes<'v, 'a>(&'v Verdict<'a>);
-
-impl fmt::Display for Nodes<'_, '_> {
+impl<G: Found, R> fmt::Display for Nodes<'_, '_, G, R> {
     fn fmt<W: fmt::Write>(&self, f: &mut fmt::Formatter<W>) -> fmt::Result {
         let reader = self.0.reader();
-        for i in 0..MOST_NODES {
-            let Some(record) = reader.record(i as usize) else {
-                break;
-            };
+        let records = (0..MOST_NODES).map_while(|i| Some((i, reader.record(i as usize)?)));
+        for (i, record) in records {
             let indent = indentation(reader, i);
             let (word, details) = words::node_words(reader, record);
             let marks = self.0.marks(i);
@@ -88,10 +76,11 @@ impl fmt::Display for Nodes<'_, '_> {
 
 // How many nodes a node spans, unless it is itself alone.
 fn span_words<'a>(record: &[u8]) -> Piece<'a> {
-    match u16_at(record, 4) {
-        1 => Piece::Nothing,
-        size => Piece::Number(", spans ", size as i64, ""),
+    let size = u16_at(record, 4);
+    if size == 1 {
+        return Piece::default();
     }
+    Piece::Number(", spans ", size as i64, "")
 }
 
 // Two spaces for each node above it.
@@ -112,6 +101,6 @@ fn not_shown<'a>(reader: Reader<'a>) -> Piece<'a> {
             " more nodes that the contents claim are not shown\n",
         )
     } else {
-        Piece::Nothing
+        Piece::default()
     }
 }

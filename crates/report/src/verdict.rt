@@ -1,74 +1,132 @@
 // The verdict on a file: good, or refused, with a sentence that says what is wrong and where.
+//
+// There are two: by the layout alone, and by the rules of the language too.
 ghost use Rattle.std.specs.Prelude.{◌≡◌, is_ok};
 ghost use Rattle.checker.specs.Checked.{Checking};
+ghost use Rattle.rule_file.specs.Verdict.{Examined};
 
 use checker::{Refusal, check};
+use finding::Finding;
+use layout::fault::FileFault;
 use layout::reader::Reader;
 use node_rules::types::Ty;
 use nodes::kind::Kind;
 use rule::Rule;
+use rule_file::examine;
 use sentences::{faults, violations};
 use std::fmt;
 use wording::text::{Phrase, Piece, Sentence};
 
-/// What the check of a file says: a rule, or why there is none.
-#[derive(Drop)]
-pub struct Verdict<'a> {
-    reader: Reader<'a>,
-    checked: Result<Rule<'a>, Refusal>,
+/// What a look at a good file gives.
+pub trait Found {
+    /// What was found of node `i`, in words.
+    fn marks<'a>(&self, i: u32) -> Phrase<'a>;
 }
 
-impl<'a> Verdict<'a> {
-    /// Checks a file.
-    pub fn on(file: &'a [u8]) -> Verdict<'a>
-        ensures { Checking result.checked file.now }
+/// Why a file is refused.
+pub trait Reason {
+    /// The number of the cause, and its place.
+    fn answer(&self) -> (u32, u32);
+
+    /// The sentence that says what is wrong and where.
+    fn sentence<'a>(&self, reader: Reader<'a>) -> Sentence<'a>;
+}
+
+/// What a look at a file says: what was found, or why the file is refused.
+#[derive(Drop)]
+pub struct Verdict<'a, G, R> {
+    reader: Reader<'a>,
+    found: Result<G, R>,
+}
+
+impl<'a> Verdict<'a, Reader<'a>, Finding<FileFault>> {
+    /// Examines the layout of a file.
+    pub fn on_layout(file: &'a [u8]) -> Verdict<'a, Reader<'a>, Finding<FileFault>>
+        ensures { Examined result.found file.now }
     {
         Verdict {
             reader: Reader::over(file),
-            checked: check(file),
+            found: examine(file),
         }
     }
+}
 
-    /// Whether the file is a rule.
-    pub fn is_good(&self) -> bool
-        ensures { result ≡ is_ok self.now.checked }
+impl<'a> Verdict<'a, Rule<'a>, Refusal> {
+    /// Checks a file.
+    pub fn on(file: &'a [u8]) -> Verdict<'a, Rule<'a>, Refusal>
+        ensures { Checking result.found file.now }
     {
-        self.checked.is_ok()
+        Verdict {
+            reader: Reader::over(file),
+            found: check(file),
+        }
+    }
+}
+
+impl<'a, G, R> Verdict<'a, G, R> {
+    /// Whether the file is good.
+    pub fn is_good(&self) -> bool
+        ensures { result ≡ is_ok self.now.found }
+    {
+        self.found.is_ok()
     }
 
     /// A reader over the file, good or not.
     pub fn reader(&self) -> Reader<'a> {
         self.reader
     }
+}
 
-    /// What the checker found of node `i`: its type, and the node that declares its name. Nothing where the file is refused.
+impl<'a, G: Found, R> Verdict<'a, G, R> {
+    /// What was found of node `i`, in words. Nothing where the file is refused.
     pub fn marks(&self, i: u32) -> Phrase<'a> {
-        match &self.checked {
-            Ok(rule) => marks_in(rule, i),
-            Err(_) => Phrase::nothing(),
-        }
-    }
-
-    // The words of the verdict, and the sentence that says why.
-    fn told(&self) -> (Phrase<'a>, Sentence<'a>) {
-        match &self.checked {
-            Ok(_) => (counts(self.reader), Sentence::one(Phrase::nothing())),
-            Err(Refusal::Fault(finding)) => (
-                refused(finding.answer()),
-                faults::sentence(self.reader, *finding),
-            ),
-            Err(Refusal::Violation(finding)) => (
-                refused(finding.answer()),
-                violations::sentence(self.reader, *finding),
-            ),
+        match &self.found {
+            Ok(found) => found.marks(i),
+            Err(_) => Phrase::default(),
         }
     }
 }
 
-impl fmt::Display for Verdict<'_> {
+impl<'a, G, R: Reason> Verdict<'a, G, R> {
+    // The words of the verdict, and the sentence that says why.
+    fn told(&self) -> (Phrase<'a>, Sentence<'a>) {
+        match &self.found {
+            Ok(_) => (counts(self.reader), Sentence::one(Phrase::default())),
+            Err(reason) => (refused(reason.answer()), reason.sentence(self.reader)),
+        }
+    }
+}
+
+impl<G, R: Reason> fmt::Display for Verdict<'_, G, R> {
     fn fmt<W: fmt::Write>(&self, f: &mut fmt::Formatter<W>) -> fmt::Result {
         let (verdict, why) = self.told();
         write!(f, "{verdict}{why}")
+    }
+}
+
+impl Reason for Finding<FileFault> {
+    fn answer(&self) -> (u32, u32) {
+        Finding::answer(self)
+    }
+
+    fn sentence<'a>(&self, reader: Reader<'a>) -> Sentence<'a> {
+        faults::sentence(reader, *self)
+    }
+}
+
+impl Reason for Refusal {
+    fn answer(&self) -> (u32, u32) {
+        match self {
+            Refusal::Fault(finding) => finding.answer(),
+            Refusal::Violation(finding) => finding.answer(),
+        }
+    }
+
+    fn sentence<'a>(&self, reader: Reader<'a>) -> Sentence<'a> {
+        match self {
+            Refusal::Fault(finding) => faults::sentence(reader, *finding),
+            Refusal::Violation(finding) => violations::sentence(reader, *finding),
+        }
     }
 }
 
@@ -89,43 +147,44 @@ fn counts<'a>(reader: Reader<'a>) -> Phrase<'a> {
     )
 }
 
-fn marks_in<'a>(rule: &Rule, i: u32) -> Phrase<'a> {
-    match rule.reader.node(i as usize) {
-        Some(node) => Phrase::two(
-            type_mark(rule, node.kind, i),
-            declared_mark(rule, node.kind, i),
-        ),
-        None => Phrase::nothing(),
+/// The layout tells nothing of a node beyond its fields.
+impl Found for Reader<'_> {
+    fn marks<'a>(&self, _: u32) -> Phrase<'a> {
+        Phrase::default()
+    }
+}
+
+/// A rule tells the type of an expression, and the node that declares the name of a node.
+impl Found for Rule<'_> {
+    fn marks<'a>(&self, i: u32) -> Phrase<'a> {
+        match self.reader.node(i as usize) {
+            Some(node) => Phrase::two(
+                type_mark(self, node.kind, i).unwrap_or_default(),
+                declared_mark(self, node.kind, i).unwrap_or_default(),
+            ),
+            None => Phrase::default(),
+        }
     }
 }
 
 // The type of an expression that has one.
-fn type_mark<'a>(rule: &Rule, kind: Kind, i: u32) -> Piece<'a> {
-    if kind.number() < 17 || 24 < kind.number() {
-        return Piece::Nothing;
+fn type_mark<'a>(rule: &Rule, kind: Kind, i: u32) -> Option<Piece<'a>> {
+    if !kind.is_expression() {
+        return None;
     }
-    match rule.type_of(i as usize) {
-        Some(Ty::Int) => Piece::Words(": int"),
-        Some(Ty::Long) => Piece::Words(": long"),
-        Some(Ty::Bool) => Piece::Words(": bool"),
-        None => Piece::Nothing,
-    }
+    let words = match rule.type_of(i as usize)? {
+        Ty::Int => ": int",
+        Ty::Long => ": long",
+        Ty::Bool => ": bool",
+    };
+    Some(Piece::Words(words))
 }
 
 // The node that declares the name of a node that uses one.
-fn declared_mark<'a>(rule: &Rule, kind: Kind, i: u32) -> Piece<'a> {
-    if !uses_name(kind) {
-        return Piece::Nothing;
+fn declared_mark<'a>(rule: &Rule, kind: Kind, i: u32) -> Option<Piece<'a>> {
+    if !kind.uses_name() {
+        return None;
     }
-    let Some(declaration) = rule.meant(i as usize) else {
-        return Piece::Nothing;
-    };
-    Piece::count(", declared at node ", declaration, "")
-}
-
-fn uses_name(kind: Kind) -> bool {
-    match kind {
-        Kind::For | Kind::ScalarLocation | Kind::ArrayLocation | Kind::Call | Kind::Len => true,
-        _ => false,
-    }
+    let declaration = rule.meant(i as usize)?;
+    Some(Piece::count(", declared at node ", declaration, ""))
 }

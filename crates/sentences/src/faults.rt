@@ -2,11 +2,12 @@
 use finding::Finding;
 use layout::fault::FileFault;
 use layout::items::Items;
-use layout::reader::{Part, Reader};
+use layout::reader::{Contents, Part, Reader};
 use nodes::bytes::{byte, tail};
 use nodes::fields::Value;
 use nodes::kind::Kind;
 use nodes::node::Node;
+use std::iter;
 use texts::spelling::{is_identifier, is_string_text};
 use wording::text::{Phrase, Piece, Sentence};
 use wording::words::MOST_NODES;
@@ -65,7 +66,7 @@ fn claim<'a>(reader: Reader<'a>, finding: Finding<FileFault>) -> Phrase<'a> {
         FileFault::NameText => Phrase::one(name_text(reader.name(place).unwrap_or(&[]))),
         FileFault::NameRepeated => repeated(reader, place),
         FileFault::StringText => Phrase::one(string_text(item_at(reader.strings(), place))),
-        FileFault::NodeFields => Phrase::one(field(reader, place)),
+        FileFault::NodeFields => field(reader, place),
         FileFault::NodeSize => size(reader, place),
         FileFault::NodeChildren => children(reader, place),
         FileFault::NodeDepth => Phrase::one(Piece::Words("no place there: 64 is the deepest")),
@@ -86,37 +87,30 @@ fn end(part: Part) -> i64 {
     part.offset as i64 + part.length as i64
 }
 
-const BEGIN: &str = ", but should begin at byte ";
-
 // The first body that does not begin where the one before it ends, or else the file's end.
 fn misplaced<'a>(reader: Reader<'a>) -> Phrase<'a> {
-    let contents = reader.contents();
-    let nodes = contents.nodes.offset as i64;
-    let names = contents.names.offset as i64;
-    let strings = contents.strings.offset as i64;
-    let (at, wanted) = if nodes != 28 {
-        (Piece::Number("nodes begin at byte ", nodes, BEGIN), 28)
-    } else if names != end(contents.nodes) {
-        (
-            Piece::Number("names begin at byte ", names, BEGIN),
-            end(contents.nodes),
-        )
-    } else if strings != end(contents.names) {
-        (
-            Piece::Number("strings begin at byte ", strings, BEGIN),
-            end(contents.names),
-        )
-    } else {
-        (
-            Piece::count(
-                "file ends at byte ",
-                reader.file().len(),
-                ", but should end at byte ",
-            ),
-            end(contents.strings),
-        )
-    };
-    Phrase::two(at, Piece::Number("", wanted, ""))
+    let Contents {
+        nodes,
+        names,
+        strings,
+    } = reader.contents();
+    let begins = [
+        ("nodes begin at byte ", nodes, 28),
+        ("names begin at byte ", names, end(nodes)),
+        ("strings begin at byte ", strings, end(names)),
+    ];
+    for (words, part, wanted) in begins {
+        if part.offset as i64 != wanted {
+            return Phrase::two(
+                Piece::Number(words, part.offset as i64, ""),
+                Piece::Number(", but should begin at byte ", wanted, ""),
+            );
+        }
+    }
+    Phrase::two(
+        Piece::count("file ends at byte ", reader.file().len(), ""),
+        Piece::Number(", but should end at byte ", end(strings), ""),
+    )
 }
 
 fn miscounted<'a>(length: u32) -> Piece<'a> {
@@ -130,12 +124,7 @@ fn miscounted<'a>(length: u32) -> Piece<'a> {
 
 // Item `k` of a body, with its length byte.
 fn item_at<'a>(mut items: Items<'a>, k: u32) -> &'a [u8] {
-    for _ in 0..k {
-        if items.next_item().is_none() {
-            return &[];
-        }
-    }
-    items.next_item().unwrap_or(&[])
+    items.nth(k as usize).unwrap_or(&[])
 }
 
 // Whether an item has as many bytes as its length byte says.
@@ -167,13 +156,15 @@ fn name_text<'a>(text: &'a [u8]) -> Piece<'a> {
 
 fn repeated<'a>(reader: Reader<'a>, k: u32) -> Phrase<'a> {
     let text = reader.name(k).unwrap_or(&[]);
-    for lower in 0..k {
-        if reader.name(lower).unwrap_or(&[]) == text {
-            let other = Piece::Number(", and so is name ", lower as i64, "");
-            return Phrase::two(Piece::Bytes("is \"", text, "\""), other);
-        }
-    }
-    Phrase::one(Piece::Bytes("is \"", text, "\", and so is a lower name"))
+    let lower = reader
+        .names()
+        .take(k as usize)
+        .position(|item| tail(item) == text);
+    let other = match lower {
+        Some(lower) => Piece::count(", and so is name ", lower, ""),
+        None => Piece::Words(", and so is a lower name"),
+    };
+    Phrase::two(Piece::Bytes("is \"", text, "\""), other)
 }
 
 fn string_text<'a>(item: &'a [u8]) -> Piece<'a> {
@@ -197,30 +188,27 @@ fn string_text<'a>(item: &'a [u8]) -> Piece<'a> {
 }
 
 // The first field of a node's record that its kind does not allow.
-fn field<'a>(reader: Reader<'a>, i: u32) -> Piece<'a> {
+fn field<'a>(reader: Reader<'a>, i: u32) -> Phrase<'a> {
     let record = reader.record(i as usize).unwrap_or(&[]);
     let Some(node) = Node::decode(record) else {
-        return Piece::Number(
-            "the kind ",
-            byte(record, 0) as i64,
-            ", which does not exist",
-        );
+        let kind = byte(record, 0) as i64;
+        return Phrase::one(Piece::Number("the kind ", kind, ", which does not exist"));
     };
     let fields = node.kind.fields();
     if node.tag < fields.first || node.tag > fields.last {
-        return Piece::Number(
-            "the tag ",
-            node.tag as i64,
-            ", which its kind does not allow",
-        );
+        let tag = node.tag as i64;
+        return Phrase::one(Piece::Number("the tag ", tag, ", which its kind does not allow"));
     }
     if let Some(why) = against_name(fields.named, node.name, reader.names().count()) {
-        return Piece::Number("the name number ", node.name as i64, why);
+        return Phrase::one(Piece::Number("the name number ", node.name as i64, why));
     }
-    if let Some((words, byte)) = stray_byte(record) {
-        return Piece::Number(words, byte as i64, ", where 0 must stand");
+    if let Some(at) = stray_byte(record) {
+        return Phrase::two(
+            Piece::count("the byte ", at, " set to "),
+            Piece::Number("", byte(record, at) as i64, ", where 0 must stand"),
+        );
     }
-    Piece::Number("the value ", node.value, against_value(fields.value))
+    Phrase::one(Piece::Number("the value ", node.value, against_value(fields.value)))
 }
 
 // What is wrong with the name number of a node that has a name or has none.
@@ -234,17 +222,9 @@ fn against_name(named: bool, name: u8, names: u32) -> Option<&'static str> {
     }
 }
 
-// The first byte that is not zero of those that always are.
-fn stray_byte(record: &[u8]) -> Option<(&'static str, u8)> {
-    if byte(record, 3) != 0 {
-        Some(("the byte 3 set to ", byte(record, 3)))
-    } else if byte(record, 6) != 0 {
-        Some(("the byte 6 set to ", byte(record, 6)))
-    } else if byte(record, 7) != 0 {
-        Some(("the byte 7 set to ", byte(record, 7)))
-    } else {
-        None
-    }
+// Where the first byte is that is not zero, of those that always are.
+fn stray_byte(record: &[u8]) -> Option<usize> {
+    [3, 6, 7].into_iter().find(|at| byte(record, *at) != 0)
 }
 
 // What is wrong with a value that breaks the rule for values.
@@ -280,14 +260,13 @@ fn children<'a>(reader: Reader<'a>, i: u32) -> Phrase<'a> {
         Some(node) => node.kind,
         None => Kind::Program,
     };
-    if i == 0 && kind.number() != 1 {
+    if i == 0 && kind != Kind::Program {
         return Phrase::one(Piece::Words("the place of the program, and is none"));
     }
-    let count = child_count(reader, i) as i64;
     Phrase::two(
-        Piece::Number(
+        Piece::count(
             "children of a wrong kind, order or number, ",
-            count,
+            child_count(reader, i),
             " in all: it should have ",
         ),
         Piece::Words(words::children(kind)),
@@ -295,17 +274,12 @@ fn children<'a>(reader: Reader<'a>, i: u32) -> Phrase<'a> {
 }
 
 // How many children a node has by the sizes. No more are counted than a rule has nodes, so that sizes of 0 do no harm.
-fn child_count(reader: Reader, i: u32) -> u32 {
+fn child_count(reader: Reader, i: u32) -> usize {
     let end = outline::end_of(reader.node_body(), i);
-    let mut child = i as usize + 1;
-    for count in 0..MOST_NODES {
-        let Some(node) = reader.node(child) else {
-            return count;
-        };
-        if child >= end {
-            return count;
-        }
-        child = child.saturating_add(node.size as usize);
-    }
-    MOST_NODES
+    iter::successors(Some(i as usize + 1), |child| {
+        Some(child.saturating_add(reader.node(*child)?.size as usize))
+    })
+    .take_while(|child| *child < end && reader.node(*child).is_some())
+    .take(MOST_NODES as usize)
+    .count()
 }

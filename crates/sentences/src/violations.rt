@@ -17,7 +17,7 @@ pub fn sentence<'a>(reader: Reader<'a>, finding: Finding<Violation>) -> Sentence
             position(reader, finding.place),
             Phrase::two(
                 Piece::Words(claim(cause)),
-                evidence(reader, finding.place, cause),
+                evidence(reader, finding.place, cause).unwrap_or_default(),
             ),
         ),
     }
@@ -43,7 +43,7 @@ fn position<'a>(reader: Reader<'a>, i: u32) -> Phrase<'a> {
             let name = reader.name(method.name as u32).unwrap_or(&[]);
             Piece::Bytes(" in method ", name, "")
         }
-        None => Piece::Nothing,
+        None => Piece::default(),
     };
     let line = Piece::Number(", line ", words::node_line(reader, i), " of show: ");
     Phrase::two(method, line)
@@ -52,22 +52,16 @@ fn position<'a>(reader: Reader<'a>, i: u32) -> Phrase<'a> {
 // The innermost method that a node lies in.
 fn method_around(reader: Reader, i: u32) -> Option<Node> {
     let nodes = reader.node_body();
-    let mut innermost = None;
-    for j in 0..i {
-        if (i as usize) < outline::end_of(nodes, j) {
-            innermost = method_at(reader, j).or(innermost);
-        }
-    }
-    innermost
+    (0..i)
+        .rev()
+        .filter(|j| (i as usize) < outline::end_of(nodes, *j))
+        .find_map(|j| method_at(reader, j))
 }
 
 fn method_at(reader: Reader, i: u32) -> Option<Node> {
-    let node = reader.node(i as usize)?;
-    if matches!(node.kind, Kind::Method) {
-        Some(node)
-    } else {
-        None
-    }
+    reader
+        .node(i as usize)
+        .filter(|node| node.kind == Kind::Method)
 }
 
 // What is wrong with the node, in words that end a sentence or that the evidence ends.
@@ -103,25 +97,25 @@ fn claim(cause: Violation) -> &'static str {
 }
 
 // What the node has that is wrong, where that can be told in a word or a number.
-fn evidence<'a>(reader: Reader<'a>, i: u32, cause: Violation) -> Piece<'a> {
+fn evidence<'a>(reader: Reader<'a>, i: u32, cause: Violation) -> Option<Piece<'a>> {
     match cause {
-        Violation::RepeatedName => match lower_namesake(reader, i) {
-            Some(lower) => Piece::Number(", at node ", lower as i64, ""),
-            None => Piece::Nothing,
-        },
-        Violation::Undeclared => match first_declaring(reader, i) {
-            Some(other) => Piece::Number("; that at node ", other as i64, " is not"),
-            None => Piece::Nothing,
-        },
-        Violation::EmptyArray | Violation::TooLarge => match reader.node(i as usize) {
-            Some(node) => Piece::Number(" ", node.value, ""),
-            None => Piece::Nothing,
-        },
-        Violation::MissingResult => match method_around(reader, i) {
-            Some(method) => Piece::Words(words::type_word(method.tag).unwrap_or("")),
-            None => Piece::Nothing,
-        },
-        _ => Piece::Nothing,
+        Violation::RepeatedName => {
+            let lower = lower_namesake(reader, i)?;
+            Some(Piece::Number(", at node ", lower as i64, ""))
+        }
+        Violation::Undeclared => {
+            let other = first_declaring(reader, i)?;
+            Some(Piece::Number("; that at node ", other as i64, " is not"))
+        }
+        Violation::EmptyArray | Violation::TooLarge => {
+            let node = reader.node(i as usize)?;
+            Some(Piece::Number(" ", node.value, ""))
+        }
+        Violation::MissingResult => {
+            let method = method_around(reader, i)?;
+            Some(Piece::Words(words::type_word(method.tag)?))
+        }
+        _ => None,
     }
 }
 
@@ -129,34 +123,20 @@ fn evidence<'a>(reader: Reader<'a>, i: u32, cause: Violation) -> Piece<'a> {
 fn lower_namesake(reader: Reader, i: u32) -> Option<u32> {
     let name = reader.node(i as usize)?.name;
     let scope = scope_of(reader, i);
-    for j in 0..i {
-        if declares(reader, j, name) && scope_of(reader, j) == scope {
-            return Some(j);
-        }
-    }
-    None
+    (0..i).find(|j| declares(reader, *j, name) && scope_of(reader, *j) == scope)
 }
 
 // The lowest node that declares the name of a node, in whatever scope.
 fn first_declaring(reader: Reader, i: u32) -> Option<u32> {
     let name = reader.node(i as usize)?.name;
-    for j in 0..MOST_NODES {
-        if declares(reader, j, name) {
-            return Some(j);
-        }
-    }
-    None
+    (0..MOST_NODES).find(|j| declares(reader, *j, name))
 }
 
 // Whether node `i` declares the name.
 fn declares(reader: Reader, i: u32, name: u8) -> bool {
-    match reader.node(i as usize) {
-        Some(node) => {
-            let number = node.kind.number();
-            2 <= number && number <= 6 && node.name == name
-        }
-        None => false,
-    }
+    reader
+        .node(i as usize)
+        .is_some_and(|node| node.kind.declares_name() && node.name == name)
 }
 
 // The node whose scope a declaration stands in: its parent, but of a method's body block the method.
@@ -183,19 +163,16 @@ fn too_many_cells<'a>(reader: Reader<'a>) -> Phrase<'a> {
 // One cell for a scalar of the program's own and its length for an array.
 fn own_cells(reader: Reader) -> i64 {
     let nodes = reader.node_body();
-    let mut cells: i64 = 0;
-    for i in 1..MOST_NODES {
-        if outline::parent(nodes, i) == 0 {
-            cells = cells.saturating_add(cells_at(reader, i));
-        }
-    }
-    cells
+    (1..MOST_NODES)
+        .filter(|i| outline::parent(nodes, *i) == 0)
+        .map(|i| cells_at(reader, i))
+        .fold(0, i64::saturating_add)
 }
 
 fn cells_at(reader: Reader, i: u32) -> i64 {
     match reader.node(i as usize) {
-        Some(node) if matches!(node.kind, Kind::ScalarDeclaration) => 1,
-        Some(node) if matches!(node.kind, Kind::ArrayDeclaration) => node.value,
+        Some(node) if node.kind == Kind::ScalarDeclaration => 1,
+        Some(node) if node.kind == Kind::ArrayDeclaration => node.value,
         _ => 0,
     }
 }

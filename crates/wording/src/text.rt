@@ -3,10 +3,9 @@
 // Whatever bytes a piece shows, what is written of it is printable ASCII.
 use std::fmt;
 
-/// A piece of text.
+/// A piece of text. By default it is empty.
 #[derive(Drop)]
 pub enum Piece<'a> {
-    Nothing,
     Words(&'static str),
     /// a number, and what stands before and after it
     Number(&'static str, i64, &'static str),
@@ -17,11 +16,16 @@ pub enum Piece<'a> {
 impl fmt::Display for Piece<'_> {
     fn fmt<W: fmt::Write>(&self, f: &mut fmt::Formatter<W>) -> fmt::Result {
         match self {
-            Piece::Nothing => Ok(()),
             Piece::Words(words) => f.write_str(words),
             Piece::Number(before, number, after) => write!(f, "{before}{number}{after}"),
             Piece::Bytes(before, bytes, after) => write!(f, "{before}{}{after}", Shown(bytes)),
         }
+    }
+}
+
+impl<'a> Default for Piece<'a> {
+    fn default() -> Piece<'a> {
+        Piece::Words("")
     }
 }
 
@@ -32,8 +36,8 @@ impl<'a> Piece<'a> {
     }
 }
 
-/// Three pieces, one after another.
-#[derive(Drop)]
+/// Three pieces, one after another. By default it has no word.
+#[derive(Default, Drop)]
 pub struct Phrase<'a>(pub Piece<'a>, pub Piece<'a>, pub Piece<'a>);
 
 impl fmt::Display for Phrase<'_> {
@@ -43,19 +47,14 @@ impl fmt::Display for Phrase<'_> {
 }
 
 impl<'a> Phrase<'a> {
-    /// A phrase without a word.
-    pub fn nothing() -> Phrase<'a> {
-        Phrase(Piece::Nothing, Piece::Nothing, Piece::Nothing)
-    }
-
     /// A phrase of one piece.
     pub fn one(first: Piece<'a>) -> Phrase<'a> {
-        Phrase(first, Piece::Nothing, Piece::Nothing)
+        Phrase(first, Piece::default(), Piece::default())
     }
 
     /// A phrase of two pieces.
     pub fn two(first: Piece<'a>, second: Piece<'a>) -> Phrase<'a> {
-        Phrase(first, second, Piece::Nothing)
+        Phrase(first, second, Piece::default())
     }
 }
 
@@ -72,12 +71,12 @@ impl fmt::Display for Sentence<'_> {
 impl<'a> Sentence<'a> {
     /// A sentence of one phrase.
     pub fn one(first: Phrase<'a>) -> Sentence<'a> {
-        Sentence(first, Phrase::nothing(), Phrase::nothing())
+        Sentence(first, Phrase::default(), Phrase::default())
     }
 
     /// A sentence of two phrases.
     pub fn two(first: Phrase<'a>, second: Phrase<'a>) -> Sentence<'a> {
-        Sentence(first, second, Phrase::nothing())
+        Sentence(first, second, Phrase::default())
     }
 }
 
@@ -88,8 +87,8 @@ pub struct Shown<'a>(pub &'a [u8]);
 
 impl fmt::Display for Shown<'_> {
     fn fmt<W: fmt::Write>(&self, f: &mut fmt::Formatter<W>) -> fmt::Result {
-        for byte in self.0 {
-            write_byte(*byte, f)?;
+        for &byte in self.0 {
+            write_byte(byte, f)?;
         }
         Ok(())
     }

@@ -110,72 +110,44 @@ pub fn children(kind: Kind) -> &'static str {
     }
 }
 
+// What the tags of a kind say, from 0 on: each word after a space.
+const TYPES: [&str; 4] = [" void", " int", " long", " bool"];
+
+const ASSIGNMENTS: [&str; 6] = [" =", " +=", " -=", " *=", " /=", " %="];
+
+const STEPS: [&str; 2] = [" ++", " --"];
+
+const SIGNS: [&str; 2] = [" -", " !"];
+
+const OPERATORS: [&str; 13] = [
+    " +", " -", " *", " /", " %", " <", " >", " <=", " >=", " ==", " !=", " &&", " ||",
+];
+
 /// The word for the type that a tag tells, after a space.
 pub fn type_word(tag: u8) -> Option<&'static str> {
-    match tag {
-        1 => Some(" int"),
-        2 => Some(" long"),
-        3 => Some(" bool"),
-        _ => None,
-    }
-}
-
-fn assignment_word(tag: u8) -> Option<&'static str> {
-    match tag {
-        0 => Some(" ="),
-        1 => Some(" +="),
-        2 => Some(" -="),
-        3 => Some(" *="),
-        4 => Some(" /="),
-        5 => Some(" %="),
-        _ => None,
-    }
-}
-
-fn binary_word(tag: u8) -> Option<&'static str> {
-    match tag {
-        0 => Some(" +"),
-        1 => Some(" -"),
-        2 => Some(" *"),
-        3 => Some(" /"),
-        4 => Some(" %"),
-        5 => Some(" <"),
-        6 => Some(" >"),
-        7 => Some(" <="),
-        8 => Some(" >="),
-        9 => Some(" =="),
-        10 => Some(" !="),
-        11 => Some(" &&"),
-        12 => Some(" ||"),
-        _ => None,
-    }
-}
-
-// One of two words, by a tag of 0 or 1.
-fn either(tag: u8, zero: &'static str, one: &'static str) -> Option<&'static str> {
-    match tag {
-        0 => Some(zero),
-        1 => Some(one),
-        _ => None,
-    }
+    tag_word(Kind::Parameter, tag)
 }
 
 // What the tag of a node says, after a space; nothing where it has no meaning.
 fn tag_word(kind: Kind, tag: u8) -> Option<&'static str> {
-    match kind {
-        Kind::Method if tag == 0 => Some(" void"),
+    let fields = kind.fields();
+    if tag < fields.first || fields.last < tag {
+        return None;
+    }
+    let words: &'static [&'static str] = match kind {
         Kind::ScalarDeclaration
         | Kind::ArrayDeclaration
         | Kind::Method
         | Kind::Parameter
-        | Kind::Literal => type_word(tag),
-        Kind::Cast if tag < 3 => type_word(tag),
-        Kind::Assignment => assignment_word(tag),
-        Kind::Step => either(tag, " ++", " --"),
-        Kind::Unary => either(tag, " -", " !"),
-        Kind::Binary => binary_word(tag),
-        _ => None,
-    }
+        | Kind::Literal
+        | Kind::Cast => &TYPES,
+        Kind::Assignment => &ASSIGNMENTS,
+        Kind::Step => &STEPS,
+        Kind::Unary => &SIGNS,
+        Kind::Binary => &OPERATORS,
+        _ => &[],
+    };
+    words.get(tag as usize).copied()
 }
 
 /// A node in words: the word for its kind and then its fields. A tag without a meaning, the number of a name or string
@@ -196,23 +168,18 @@ pub fn node_words<'a>(reader: Reader<'a>, record: &[u8]) -> (&'static str, Phras
 fn tag_of<'a>(node: Node) -> Piece<'a> {
     match tag_word(node.kind, node.tag) {
         Some(word) => Piece::Words(word),
-        None if node.tag == 0 && node.kind.fields().first == 0 => Piece::Nothing,
+        None if node.tag == 0 && node.kind.fields().first == 0 => Piece::default(),
         None => Piece::Number(" tag ", node.tag as i64, ""),
     }
 }
 
 fn name_of<'a>(reader: Reader<'a>, node: Node) -> Piece<'a> {
     let number = node.name as i64;
-    if !node.kind.fields().named {
-        return if number == 0 {
-            Piece::Nothing
-        } else {
-            Piece::Number(" name ", number, "")
-        };
-    }
     match reader.name(node.name as u32) {
-        Some(text) => Piece::Bytes(" ", text, ""),
-        None => Piece::Number(" name ", number, "?"),
+        Some(text) if node.kind.fields().named => Piece::Bytes(" ", text, ""),
+        None if node.kind.fields().named => Piece::Number(" name ", number, "?"),
+        _ if number == 0 => Piece::default(),
+        _ => Piece::Number(" name ", number, ""),
     }
 }
 
@@ -223,8 +190,8 @@ fn value_of<'a>(reader: Reader<'a>, node: Node) -> Piece<'a> {
         Value::Typed => literal(node.tag, value),
         Value::StringNumber => string_of(reader, value),
         Value::Zero if value != 0 => Piece::Number(" value ", value, ""),
-        Value::Zero if matches!(node.kind, Kind::ArrayLocation) => Piece::Words("[]"),
-        Value::Zero => Piece::Nothing,
+        Value::Zero if node.kind == Kind::ArrayLocation => Piece::Words("[]"),
+        Value::Zero => Piece::default(),
     }
 }
 
@@ -238,7 +205,7 @@ pub fn particulars<'a>(reader: Reader<'a>, node: Node) -> Piece<'a> {
     };
     match reader.name(node.name as u32) {
         Some(text) if node.kind.fields().named => Piece::Bytes(joined, text, ""),
-        _ => Piece::Nothing,
+        _ => Piece::default(),
     }
 }
 
@@ -258,10 +225,11 @@ fn literal<'a>(tag: u8, value: i64) -> Piece<'a> {
 }
 
 fn string_of<'a>(reader: Reader<'a>, value: i64) -> Piece<'a> {
-    if 0 <= value && value < 256 {
-        if let Some(text) = reader.string(value as u32) {
-            return Piece::Bytes(" \"", text, "\"");
-        }
+    match u8::try_from(value)
+        .ok()
+        .and_then(|k| reader.string(k as u32))
+    {
+        Some(text) => Piece::Bytes(" \"", text, "\""),
+        None => Piece::Number(" ", value, "?"),
     }
-    Piece::Number(" ", value, "?")
 }
