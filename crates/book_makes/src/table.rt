@@ -1,15 +1,18 @@
-// A book as a table: eight cells to a lot, a place for every column and lot.
-ghost use Rattle.std.specs.Prelude.{◌≡◌, ◌*◌, ◌≤◌, vec_len};
+// A book as a table: a row for each lot, a place for every column and lot.
+ghost use Rattle.std.specs.Prelude.{◌≤◌, vec_len};
+
+use book::COLUMNS;
 
 pub mod calls;
 
+// The cells of a lot, one for each column.
+type Row = [Option<i32>; COLUMNS as usize];
+
 /// A book with a place for every column and lot, and none free.
 ///
-/// The cell of a column and a lot is at `8 * lot + column`, so `put` and `get` take constant time.
+/// A lot has a row of cells, one for each column, so `put` and `get` take constant time.
 #[derive(Drop)]
 pub struct TableBook {
-    lots: u32,
-    cells: Vec<Option<i32>>,
-    ghost few: { lots ≤ 4096 },
-    ghost filled: { vec_len cells ≡ 8 * lots },
+    rows: Vec<Row>,
+    ghost few: { vec_len rows ≤ 4096 },
 }

@@ -1,9 +1,9 @@
 // How a table is made, and its calls.
-ghost use Rattle.std.specs.Prelude.{◌≡◌, ◌+◌, ◌*◌, ◌<◌, ◌≤◌, min, IfOk};
+ghost use Rattle.std.specs.Prelude.{◌≡◌, ◌<◌, ◌≤◌, min, length, slice_set, Some, vec_len, IfOk};
 ghost use Rattle.book.specs.Meanings.{written};
 ghost use Rattle.book_makes.specs.Tables.{table_meaning, empty_table};
 
-use super::TableBook;
+use super::{Row, TableBook};
 use book::fault::BookFault;
 use book::spot::{Spot, find_spot};
 use book::{Book, COLUMNS, MOST_LOTS};
@@ -22,25 +22,26 @@ impl TableBook {
         requires { lots ≤ 4096 }
         ensures { IfOk result (λ book. table_meaning book ≡ empty_table lots) }
     {
-        let cells = vec![in heap; None; (COLUMNS * lots) as usize]?;
-        Ok(TableBook { lots, cells })
+        let rows = vec![in heap; [None; COLUMNS as usize]; lots as usize]?;
+        Ok(TableBook { rows })
     }
 
     // Sets the cell of a spot.
     fn write(&mut self, spot: Spot, value: i32)
-        requires { (spot.column < 8) × (spot.lot < self.old.lots) }
+        requires { (spot.column < 8) × (spot.lot < vec_len self.old.rows) }
         ensures { table_meaning self.new ≡ written (table_meaning self.old) spot value }
     {
-        self.cells[index_of(spot)] = Some(value);
+        fill(&mut self.rows[spot.lot as usize], spot.column, value);
     }
 }
 
-// Where in a table the cell of a spot is.
-fn index_of(spot: Spot) -> usize
-    requires { spot.lot < 4096 }
-    ensures { result ≡ 8 * spot.lot + spot.column }
+// Sets the cell of a column in the row of a lot.
+fn fill(row: &mut Row, column: u32, value: i32)
+    requires { column < 8 }
+    ensures set { row.new ≡ slice_set row.old column (Some value) }
+    ensures wide { length row.old ≡ 8 }
 {
-    COLUMNS as usize * spot.lot as usize + spot.column as usize
+    row[column as usize] = Some(value);
 }
 
 impl Book for TableBook {
@@ -49,17 +50,17 @@ impl Book for TableBook {
     ghost few = { λ book. book.few };
 
     fn lots(&self) -> u32 {
-        self.lots
+        self.rows.len() as u32
     }
 
     fn put(&mut self, column: u32, lot: i32, value: i32) -> Result<(), BookFault> {
-        let spot = find_spot(self.lots, column, lot)?;
+        let spot = find_spot(self.lots(), column, lot)?;
         self.write(spot, value);
         Ok(())
     }
 
     fn get(&self, column: u32, lot: i32) -> Result<Option<i32>, BookFault> {
-        let spot = find_spot(self.lots, column, lot)?;
-        Ok(self.cells[index_of(spot)])
+        let spot = find_spot(self.lots(), column, lot)?;
+        Ok(self.rows[spot.lot as usize][spot.column as usize])
     }
 }
