@@ -122,9 +122,9 @@ module _ (t : Table) (names strings : ℕ) (sh : Shaped t.nodes names strings) (
 
   scalar : Sound ScalarLocation
   scalar e =
-      let a : not (is_some name_at) ≡ false = rw e at (kept_rule Undeclared) in
-      let b : not (names_scalar name_at) ≡ false = rw e at (kept_rule NotScalar) in
-      inl (variable_meant t.nodes (meant t.nodes i) meant_tagged (not-false (is_some name_at) a) (or_left (names_scalar name_at) (names_array name_at) (not-false (names_scalar name_at) b)))
+      let a = kept_rule Undeclared in
+      let b = kept_rule NotScalar in
+      inl (variable_meant t.nodes (meant t.nodes i) meant_tagged (grind arith) (grind arith))
 
   array : Sound ArrayLocation
   array e =
