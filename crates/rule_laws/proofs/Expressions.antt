@@ -1,6 +1,6 @@
 -- Where there is no violation, every expression has a type, but for a call of a void method that is a statement.
-use Rattle.std.proofs.Common.{◌≡◌, ℕ, zero, suc, ◌-◌, ◌<◌, ◌≤◌, Bool, true, false, cond, ◌||◌, eqb, leb, ◌⊎◌, List, [], ◌∷◌, ◌++◌, map, length, is_some, Some, None, Option, refl, ap, ◌∙◌, inl, inr, arith}
-use Rattle.std.proofs.ByRecursion.{All-append}
+use Rattle.std.proofs.Common.{◌≡◌, ℕ, zero, suc, ◌-◌, ◌<◌, ◌≤◌, true, false, ◌||◌, eqb, ◌⊎◌, List, [], ◌∷◌, ◌++◌, map, length, is_some, Some, None, Option, refl, ap, inl, inr, arith}
+use Rattle.std.proofs.lemmas.List.Elements.{All-append, All-from_recursion, recursion_from_All}
 use Rattle.std.proofs.lemmas.Bool.{cases_Bool, or_left, or_right}
 use Rattle.std.proofs.lemmas.Bool.Decides.{nat_tests}
 use Rattle.std.specs.List.{AllByRecursion as All}
@@ -16,10 +16,9 @@ use Rattle.tree.specs.Spans.{elem}
 use Rattle.node_rules.specs.Tables.{Table, node, kind_at, end, parts}
 use Rattle.node_rules.specs.Scopes.{meant}
 use Rattle.node_rules.specs.Types.{tagged, has_type}
-use Rattle.node_rules.specs.Rules.{names_scalar, names_array, names_callable, names_void, declared_type, call_type, sound_type, typed_unless, broken_by, declared, held, facts_at, type_of, first_violation}
+use Rattle.node_rules.specs.Rules.{names_scalar, names_array, names_callable, names_void, declared_type, call_type, sound_type, broken_by, declared, held, facts_at, type_of, first_violation}
 use Rattle.node_rules.specs.declared.facts.Declared.{Declared}
 use Rattle.node_rules.specs.declared.types.Ty.{Ty}
-use Rattle.node_rules.specs.declared.types.Ty.TheVariants.{Bool as Truth}
 use Rattle.node_rules.specs.declared.violation.Violation.{Violation}
 use Rattle.node_rules.specs.declared.violation.Violation.TheVariants.{Undeclared, VoidValue, NotScalar, NotCallable, NotElement}
 use Rattle.rule_laws.specs.Shaped.{Shaped}
@@ -49,8 +48,10 @@ values_run s v (k ∷ run) h = grind (arith, v, values_run s v run)
 values_arranged : (slots : List Slot) (ks : List ℕ) → All Values slots → Arranged slots ks → All (λ k. between 17 25 k ≡ true) ks
 values_arranged [] ks v a = rw a tt
 values_arranged (s ∷ slots) ks v a =
-    rw a.1.1.0
-    (All-append (λ k. between 17 25 k ≡ true) a.0 a.1.0 (values_run s v.0 a.0 a.1.1.1.0) (values_arranged slots a.1.0 v.1 a.1.1.1.1.1))
+    let P : ℕ → Type 0 = λ k. between 17 25 k ≡ true in
+    let run = All-from_recursion P a.0 (values_run s v.0 a.0 a.1.1.1.0) in
+    let later = All-from_recursion P a.1.0 (values_arranged slots a.1.0 v.1 a.1.1.1.1.1) in
+    rw a.1.1.0 (recursion_from_All P (a.0 ++ a.1.0) (All-append P a.0 a.1.0 run later))
 
 all_unmap : (P : ℕ → Type 0) (f : ℕ → ℕ) (cs : List ℕ) → All P (map f cs) → All (λ c. P (f c)) cs
 all_unmap P f [] a = tt
@@ -94,10 +95,6 @@ module _ (ns : List Node) where
   callable_meant : (m : Option ℕ) → is_some (declared ns m) ≡ true → names_callable (declared ns m) ≡ true → (has_type (call_type (declared ns m)) ≡ true) ⊎ (names_void (declared ns m) ≡ true)
   callable_meant m s h = grind (arith, nat_tests)
 
--- A type, or else another.
-either_typed : (b : Bool) (a : Option Ty) (ty : Ty) → has_type a ≡ true → has_type (cond b a (Some ty)) ≡ true
-either_typed b a ty h = grind arith
-
 -- One node of an accepted table: by its kind its fields, its children or what its name means give its type.
 module _ (t : Table) (names strings : ℕ) (sh : Shaped t.nodes names strings) (none : first_violation t ≡ None) (i : ℕ) (l : i < length t.nodes) (h : (held t.nodes (type_of t) (parts t.nodes i)).typed ≡ true) where
   abbrev Sound : Kind → Type 0
@@ -135,12 +132,12 @@ module _ (t : Table) (names strings : ℕ) (sh : Shaped t.nodes names strings) (
   unary : Sound Unary
   unary e =
       let f = first_typed t.nodes (type_of t) [] (parts t.nodes i) (rw e at (sh.nodes_fit i l).children_arranged) h in
-      inl (either_typed (eqb (node t.nodes i).tag 0) (held t.nodes (type_of t) (parts t.nodes i)).first Truth f)
+      inl (grind arith)
 
   binary : Sound Binary
   binary e =
       let f = first_typed t.nodes (type_of t) (one class.Expression ∷ []) (parts t.nodes i) (rw e at (sh.nodes_fit i l).children_arranged) h in
-      inl (either_typed (leb (node t.nodes i).tag 4) (held t.nodes (type_of t) (parts t.nodes i)).first Truth f)
+      inl (grind arith)
 
   call : Sound Call
   call e =
@@ -159,11 +156,10 @@ module _ (t : Table) (names strings : ℕ) (sh : Shaped t.nodes names strings) (
   sound_node b =
       let k = (node t.nodes i).kind in
       let s = one_of Sound expressions (scalar, (array, (literal, (unary, (cast, (call, (len, (binary, tt)))))))) k (among_expressions k b) refl in
-      let q : type_of t i ≡ sound_type k (facts_at t i) =
-      type_is t i l
-      ∙ ap (λ o. typed_unless o (facts_at t i)) (none_broken_at t none i l)
-      ∙ ap (λ v. cond v (sound_type k (facts_at t i)) None) h
-      in elim s [ inl x ↦ inl (rw q x) | inr v ↦ inr v ]
+      let n = none_broken_at t none i l in
+      let w = type_is t i l in
+      let q : type_of t i ≡ sound_type k (facts_at t i) = grind arith in
+      elim s [ inl x ↦ inl (rw q x) | inr v ↦ inr v ]
 
 -- All nodes, from the last one down.
 module _ (t : Table) (names strings : ℕ) (sh : Shaped t.nodes names strings) (none : first_violation t ≡ None) where
