@@ -1,49 +1,26 @@
 -- Where there is no violation, no rule is broken anywhere.
-use Rattle.std.proofs.Common.{◌≡◌, ℕ, zero, suc, ◌+◌, ◌<◌, ◌≤◌, false, List, [], ◌∷◌, length, None, Option, refl, ◌∙◌, arith}
+use Rattle.std.proofs.Common.{◌≡◌, ℕ, zero, suc, ◌+◌, ◌-◌, ◌<◌, ◌≤◌, false, List, [], ◌∷◌, length, get_or, None, Option, refl, ◌∙◌, subst, arith}
 use Rattle.std.proofs.lemmas.Bool.Decides.{nat_tests}
 use Rattle.finding.specs.declared.Finding.{Finding}
 use Rattle.rule_laws.specs.Accepted.{AcceptedKeeps}
 use Rattle.node_rules.specs.declared.facts.Facts.{Facts}
 use Rattle.node_rules.specs.Rules.{broken_by, first_broken, broken, facts_at, found, first_from, or_cells, field_cells, first_violation}
 use Rattle.node_rules.specs.Tables.{Table}
-use Rattle.node_rules.specs.Violations.{rules}
+use Rattle.node_rules.specs.Violations.{number_of, rules}
 use Rattle.node_rules.specs.declared.violation.Violation.{Violation}
-use Rattle.node_rules.specs.declared.violation.Violation.TheVariants.{RepeatedName, Undeclared, NoMain, EmptyArray, Arguments, VoidValue, StringArgument, ReturnedValue, MissingResult, NotScalar, NotCallable, NotElement, NotArray, Condition, Arithmetic, Equality, Logic, CastOperand, Assigned, Compound, Index, OutsideLoop, TooLarge, TooManyCells}
+use Rattle.node_rules.specs.declared.violation.Violation.TheVariants.{TooManyCells}
 
--- None of some rules is broken.
-abbrev Each : List Violation → Facts → Type 0
-Each [] f = Unit {0}
-Each (v ∷ vs) f = (broken_by v f ≡ false) × Each vs f
+-- Where none of some rules is broken, that is so at each place; every rule has its place.
+none_at : (vs : List Violation) (f : Facts) → first_broken vs f ≡ None → (k : ℕ) → broken_by (get_or vs k TooManyCells) f ≡ false
+none_at [] f h k = refl
+none_at (v ∷ vs) f h zero = grind arith
+none_at (v ∷ vs) f h (suc k) = grind (arith, none_at vs f)
 
-none_broken : (vs : List Violation) (f : Facts) → first_broken vs f ≡ None → Each vs f
-none_broken [] f h = tt
-none_broken (v ∷ vs) f h = grind (arith, none_broken vs f)
+pub placed : (v : Violation) → get_or rules (number_of v - 21) TooManyCells ≡ v
+placed v = grind arith
 
-kept : (v : Violation) (f : Facts) → Each rules f → broken_by v f ≡ false
-kept RepeatedName f e = e.0
-kept Undeclared f e = e.1.0
-kept NoMain f e = e.1.1.0
-kept EmptyArray f e = e.1.1.1.0
-kept Arguments f e = e.1.1.1.1.0
-kept VoidValue f e = e.1.1.1.1.1.0
-kept StringArgument f e = e.1.1.1.1.1.1.0
-kept ReturnedValue f e = e.1.1.1.1.1.1.1.0
-kept MissingResult f e = e.1.1.1.1.1.1.1.1.0
-kept NotScalar f e = e.1.1.1.1.1.1.1.1.1.0
-kept NotCallable f e = e.1.1.1.1.1.1.1.1.1.1.0
-kept NotElement f e = e.1.1.1.1.1.1.1.1.1.1.1.0
-kept NotArray f e = e.1.1.1.1.1.1.1.1.1.1.1.1.0
-kept Condition f e = e.1.1.1.1.1.1.1.1.1.1.1.1.1.0
-kept Arithmetic f e = e.1.1.1.1.1.1.1.1.1.1.1.1.1.1.0
-kept Equality f e = e.1.1.1.1.1.1.1.1.1.1.1.1.1.1.1.0
-kept Logic f e = e.1.1.1.1.1.1.1.1.1.1.1.1.1.1.1.1.0
-kept CastOperand f e = e.1.1.1.1.1.1.1.1.1.1.1.1.1.1.1.1.1.0
-kept Assigned f e = e.1.1.1.1.1.1.1.1.1.1.1.1.1.1.1.1.1.1.0
-kept Compound f e = e.1.1.1.1.1.1.1.1.1.1.1.1.1.1.1.1.1.1.1.0
-kept Index f e = e.1.1.1.1.1.1.1.1.1.1.1.1.1.1.1.1.1.1.1.1.0
-kept OutsideLoop f e = e.1.1.1.1.1.1.1.1.1.1.1.1.1.1.1.1.1.1.1.1.1.0
-kept TooLarge f e = e.1.1.1.1.1.1.1.1.1.1.1.1.1.1.1.1.1.1.1.1.1.1.0
-kept TooManyCells f e = refl
+kept : (v : Violation) (f : Facts) → first_broken rules f ≡ None → broken_by v f ≡ false
+kept v f h = subst (λ (v : Violation). broken_by v f ≡ false) (placed v) (none_at rules f h (number_of v - 21))
 
 -- node by node
 found_none : (i : ℕ) (o : Option Violation) (later : Option (Finding Violation)) → found i o later ≡ None → (o ≡ None) × (later ≡ None)
@@ -68,7 +45,7 @@ none_broken_at t h i l =
     let e : 0 + i ≡ i = omega arith in rw e at (none_from t 0 (length t.nodes) p.0 i l)
 
 pub kept_at : (t : Table) → first_violation t ≡ None → (i : ℕ) → i < length t.nodes → (v : Violation) → broken_by v (facts_at t i) ≡ false
-kept_at t h i l v = kept v (facts_at t i) (none_broken rules (facts_at t i) (none_broken_at t h i l))
+kept_at t h i l v = kept v (facts_at t i) (none_broken_at t h i l)
 
 broken_is : (t : Table) (i : ℕ) (v : Violation) → broken t i v ≡ broken_by v (facts_at t i)
 unfolding broken

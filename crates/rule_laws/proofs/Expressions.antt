@@ -1,11 +1,9 @@
 -- Where there is no violation, every expression has a type, but for a call of a void method that is a statement.
-use Rattle.std.proofs.Common.{◌≡◌, ℕ, zero, suc, ◌-◌, ◌<◌, ◌≤◌, Bool, true, false, cond, not, ◌&&◌, ◌||◌, eqb, leb, ◌⊎◌, List, [], ◌∷◌, ◌++◌, map, length, is_some, Some, None, Option, refl, ap, ◌∙◌, inl, inr, arith, eqb-true}
-use borrow.Author.Tests.{not-false}
-use Rattle.std.proofs.ByRecursion.{All-append}
-use Rattle.std.proofs.lemmas.Bool.{cases_Bool, or_cases, or_left, or_right}
+use Rattle.std.proofs.Common.{◌≡◌, ℕ, zero, suc, ◌-◌, ◌<◌, ◌≤◌, true, false, ◌||◌, eqb, ◌⊎◌, List, [], ◌∷◌, ◌++◌, map, length, is_some, Some, None, Option, refl, ap, inl, inr, arith}
+use Rattle.std.proofs.lemmas.List.Elements.{All-append, All-from_recursion, recursion_from_All}
+use Rattle.std.proofs.lemmas.Bool.{cases_Bool, or_left, or_right}
 use Rattle.std.proofs.lemmas.Bool.Decides.{nat_tests}
 use Rattle.std.specs.List.{AllByRecursion as All}
-use Rattle.finding.proofs.Bools.{both}
 use Rattle.nodes.specs.Kinds.{number, between}
 use Rattle.nodes.specs.Fields.{fields}
 use Rattle.nodes.specs.Shapes.{of_class, one, shape, every, Arranged}
@@ -16,12 +14,11 @@ use Rattle.nodes.specs.declared.shape.Class.TheVariants as class
 use Rattle.nodes.specs.declared.shape.Slot.{Slot}
 use Rattle.tree.specs.Spans.{elem}
 use Rattle.node_rules.specs.Tables.{Table, node, kind_at, end, parts}
-use Rattle.node_rules.specs.Scopes.{above, meant}
-use Rattle.node_rules.specs.Types.{tagged, fits, has_type}
-use Rattle.node_rules.specs.Rules.{names_scalar, names_array, names_callable, names_void, declared_type, call_type, sound_type, typed_unless, broken_by, declared, held, facts_at, type_of, first_violation}
+use Rattle.node_rules.specs.Scopes.{meant}
+use Rattle.node_rules.specs.Types.{tagged, has_type}
+use Rattle.node_rules.specs.Rules.{names_scalar, names_array, names_callable, names_void, declared_type, call_type, sound_type, broken_by, declared, held, facts_at, type_of, first_violation}
 use Rattle.node_rules.specs.declared.facts.Declared.{Declared}
 use Rattle.node_rules.specs.declared.types.Ty.{Ty}
-use Rattle.node_rules.specs.declared.types.Ty.TheVariants.{Int, Bool as Truth}
 use Rattle.node_rules.specs.declared.violation.Violation.{Violation}
 use Rattle.node_rules.specs.declared.violation.Violation.TheVariants.{Undeclared, VoidValue, NotScalar, NotCallable, NotElement}
 use Rattle.rule_laws.specs.Shaped.{Shaped}
@@ -51,8 +48,10 @@ values_run s v (k ∷ run) h = grind (arith, v, values_run s v run)
 values_arranged : (slots : List Slot) (ks : List ℕ) → All Values slots → Arranged slots ks → All (λ k. between 17 25 k ≡ true) ks
 values_arranged [] ks v a = rw a tt
 values_arranged (s ∷ slots) ks v a =
-    rw a.1.1.0
-    (All-append (λ k. between 17 25 k ≡ true) a.0 a.1.0 (values_run s v.0 a.0 a.1.1.1.0) (values_arranged slots a.1.0 v.1 a.1.1.1.1.1))
+    let P : ℕ → Type 0 = λ k. between 17 25 k ≡ true in
+    let run = All-from_recursion P a.0 (values_run s v.0 a.0 a.1.1.1.0) in
+    let later = All-from_recursion P a.1.0 (values_arranged slots a.1.0 v.1 a.1.1.1.1.1) in
+    rw a.1.1.0 (recursion_from_All P (a.0 ++ a.1.0) (All-append P a.0 a.1.0 run later))
 
 all_unmap : (P : ℕ → Type 0) (f : ℕ → ℕ) (cs : List ℕ) → All P (map f cs) → All (λ c. P (f c)) cs
 all_unmap P f [] a = tt
@@ -75,14 +74,8 @@ module _ (ns : List Node) (τ : ℕ → Option Ty) where
 
   first_run : (cs run later : List ℕ) → map (kind_at ns) cs ≡ run ++ later → every (of_class class.Expression) run ≡ true → length run ≡ 1 → (held ns τ cs).typed ≡ true → has_type (held ns τ cs).first ≡ true
   first_run cs [] later q e l h = absurd (omega arith)
-  first_run [] (k ∷ run) later q e l h = let z : ◌≡◌ {A = ℕ} 0 1 = cc in absurd (omega arith)
-  first_run (c ∷ cs) (k ∷ run) later q e l h =
-      let s : kind_at ns c ≡ k = cc in
-      let a = (both (between 17 24 k) (every (between 17 24) run) e).0 in
-      elim (or_cases (eqb (kind_at ns c) 25) (has_type (τ c)) (both (eqb (kind_at ns c) 25 || has_type (τ c)) (held ns τ cs).typed h).0) [
-        | inl x ↦ let y = eqb-true (kind_at ns c) 25 x in absurd (grind (arith, nat_tests))
-        | inr t ↦ t
-      ]
+  first_run [] (k ∷ run) later q e l h = grind arith
+  first_run (c ∷ cs) (k ∷ run) later q e l h = grind (arith, nat_tests)
 
   first_typed : (rest : List Slot) (cs : List ℕ) → Arranged (one class.Expression ∷ rest) (map (kind_at ns) cs) → (held ns τ cs).typed ≡ true → has_type (held ns τ cs).first ≡ true
   first_typed rest cs a h = first_run cs a.0 a.1.0 a.1.1.0 a.1.1.1.0 a.1.1.1.1.0 h
@@ -102,10 +95,6 @@ module _ (ns : List Node) where
   callable_meant : (m : Option ℕ) → is_some (declared ns m) ≡ true → names_callable (declared ns m) ≡ true → (has_type (call_type (declared ns m)) ≡ true) ⊎ (names_void (declared ns m) ≡ true)
   callable_meant m s h = grind (arith, nat_tests)
 
--- A type, or else another.
-either_typed : (b : Bool) (a : Option Ty) (ty : Ty) → has_type a ≡ true → has_type (cond b a (Some ty)) ≡ true
-either_typed b a ty h = grind arith
-
 -- One node of an accepted table: by its kind its fields, its children or what its name means give its type.
 module _ (t : Table) (names strings : ℕ) (sh : Shaped t.nodes names strings) (none : first_violation t ≡ None) (i : ℕ) (l : i < length t.nodes) (h : (held t.nodes (type_of t) (parts t.nodes i)).typed ≡ true) where
   abbrev Sound : Kind → Type 0
@@ -122,49 +111,42 @@ module _ (t : Table) (names strings : ℕ) (sh : Shaped t.nodes names strings) (
 
   scalar : Sound ScalarLocation
   scalar e =
-      let a : not (is_some name_at) ≡ false = rw e at (kept_rule Undeclared) in
-      let b : not (names_scalar name_at) ≡ false = rw e at (kept_rule NotScalar) in
-      inl (variable_meant t.nodes (meant t.nodes i) meant_tagged (not-false (is_some name_at) a) (or_left (names_scalar name_at) (names_array name_at) (not-false (names_scalar name_at) b)))
+      let a = kept_rule Undeclared in
+      let b = kept_rule NotScalar in
+      inl (variable_meant t.nodes (meant t.nodes i) meant_tagged (grind arith) (grind arith))
 
   array : Sound ArrayLocation
   array e =
-      let f = fits Int (held t.nodes (type_of t) (parts t.nodes i)).first in
-      let a : not (is_some name_at) ≡ false = rw e at (kept_rule Undeclared) in
-      let b : not (names_array name_at && f) ≡ false = rw e at (kept_rule NotElement) in
-      let c = both (names_array name_at) f (not-false (names_array name_at && f) b) in
-      inl (variable_meant t.nodes (meant t.nodes i) meant_tagged (not-false (is_some name_at) a) (or_right (names_scalar name_at) (names_array name_at) c.0))
+      let a = kept_rule Undeclared in
+      let b = kept_rule NotElement in
+      inl (variable_meant t.nodes (meant t.nodes i) meant_tagged (grind arith) (grind arith))
 
   literal : Sound Literal
-  literal e = inl (tagged_typed (node t.nodes i).tag (rw e at (sh.nodes_fit i l).tag))
+  literal e =
+      let a = (sh.nodes_fit i l).tag in inl (tagged_typed (node t.nodes i).tag (grind arith))
 
   cast : Sound Cast
   cast e =
-      let n = (node t.nodes i).tag in
-      let a : between 1 2 n ≡ true = rw e at (sh.nodes_fit i l).tag in
-      let b : between 1 3 n ≡ true = grind (arith, nat_tests) in
-      inl (tagged_typed n b)
+      let a = (sh.nodes_fit i l).tag in inl (tagged_typed (node t.nodes i).tag (grind (arith, nat_tests)))
 
   unary : Sound Unary
   unary e =
       let f = first_typed t.nodes (type_of t) [] (parts t.nodes i) (rw e at (sh.nodes_fit i l).children_arranged) h in
-      inl (either_typed (eqb (node t.nodes i).tag 0) (held t.nodes (type_of t) (parts t.nodes i)).first Truth f)
+      inl (grind arith)
 
   binary : Sound Binary
   binary e =
       let f = first_typed t.nodes (type_of t) (one class.Expression ∷ []) (parts t.nodes i) (rw e at (sh.nodes_fit i l).children_arranged) h in
-      inl (either_typed (leb (node t.nodes i).tag 4) (held t.nodes (type_of t) (parts t.nodes i)).first Truth f)
+      inl (grind arith)
 
   call : Sound Call
   call e =
-      let p = eqb (kind_at t.nodes (above t.nodes i)) 10 in
-      let a : not (is_some name_at) ≡ false = rw e at (kept_rule Undeclared) in
-      let b : not (names_callable name_at) ≡ false = rw e at (kept_rule NotCallable) in
-      let c : (names_void name_at && not p) ≡ false = rw e at (kept_rule VoidValue) in
-      elim (callable_meant t.nodes (meant t.nodes i) (not-false (is_some name_at) a) (not-false (names_callable name_at) b)) [
+      let a = kept_rule Undeclared in
+      let b = kept_rule NotCallable in
+      let c = kept_rule VoidValue in
+      elim (callable_meant t.nodes (meant t.nodes i) (grind arith) (grind arith)) [
         | inl x ↦ inl x
-        | inr v ↦
-            let d : not p ≡ false = rw v at c in
-            inr (record { call = ap number e; void = v; statement = eqb-true (kind_at t.nodes (above t.nodes i)) 10 (not-false p d) })
+        | inr v ↦ inr (record { call = ap number e; void = v; statement = grind (arith, nat_tests) })
       ]
 
   len : Sound Len
@@ -174,19 +156,18 @@ module _ (t : Table) (names strings : ℕ) (sh : Shaped t.nodes names strings) (
   sound_node b =
       let k = (node t.nodes i).kind in
       let s = one_of Sound expressions (scalar, (array, (literal, (unary, (cast, (call, (len, (binary, tt)))))))) k (among_expressions k b) refl in
-      let q : type_of t i ≡ sound_type k (facts_at t i) =
-      type_is t i l
-      ∙ ap (λ o. typed_unless o (facts_at t i)) (none_broken_at t none i l)
-      ∙ ap (λ v. cond v (sound_type k (facts_at t i)) None) h
-      in elim s [ inl x ↦ inl (rw q x) | inr v ↦ inr v ]
+      let n = none_broken_at t none i l in
+      let w = type_is t i l in
+      let q : type_of t i ≡ sound_type k (facts_at t i) = grind arith in
+      elim s [ inl x ↦ inl (rw q x) | inr v ↦ inr v ]
 
 -- All nodes, from the last one down.
 module _ (t : Table) (names strings : ℕ) (sh : Shaped t.nodes names strings) (none : first_violation t ≡ None) where
   child_typed : (i c : ℕ) → i < length t.nodes → between 17 24 (kind_at t.nodes i) ≡ true → elem c (parts t.nodes i) ≡ true → (has_type (type_of t c) ≡ true) ⊎ VoidCall t c → has_type (type_of t c) ≡ true
   child_typed i c l b m (inl x) = x
   child_typed i c l b m (inr v) =
-      let p : above t.nodes c ≡ i = sh.families.parent_of i c l m in
-      let q : kind_at t.nodes i ≡ 10 = rw p at v.statement in absurd (grind (arith, nat_tests))
+      let p = sh.families.parent_of i c l m in
+      let q = v.statement in grind (arith, nat_tests)
 
   typed_from : (m i : ℕ) → length t.nodes - i ≤ m → i < length t.nodes → between 17 24 (kind_at t.nodes i) ≡ true → (has_type (type_of t i) ≡ true) ⊎ VoidCall t i
   typed_from zero i z l b = absurd (omega arith)

@@ -26,13 +26,13 @@ parts_all P ns i h = children_from_all P (end ns) (λ j. omega arith) (end ns i 
 module _ (ns : List Node) (τ σ : ℕ → Option Ty) where
   held_same : (cs : List ℕ) → All (λ c. τ c ≡ σ c) cs → held ns τ cs ≡ held ns σ cs
   held_same [] a = refl
-  held_same (c ∷ cs) a = let h = held_same cs a.1 in rw (a.0, h) refl
+  held_same (c ∷ cs) a = grind (arith, held_same cs)
 
   matches_same : (ps cs : List ℕ) → All (λ c. τ c ≡ σ c) cs → matches ns τ ps cs ≡ matches ns σ ps cs
   matches_same [] [] a = refl
   matches_same [] (c ∷ cs) a = refl
   matches_same (p ∷ ps) [] a = refl
-  matches_same (p ∷ ps) (c ∷ cs) a = let h = matches_same ps cs a.1 in rw (a.0, h) refl
+  matches_same (p ∷ ps) (c ∷ cs) a = grind (arith, matches_same ps cs)
 
   matching_same : (cs : List ℕ) (m : Option ℕ) → All (λ c. τ c ≡ σ c) cs → matching ns τ cs m ≡ matching ns σ cs m
   matching_same cs None a = refl

@@ -1,139 +1,64 @@
 -- The table of a file without a fault has the file's nodes, names and strings.
-use Rattle.std.proofs.Common.{◌≡◌, ℕ, zero, suc, ◌+◌, ◌*◌, ◌/◌, ◌%◌, ◌<◌, ◌≤◌, true, cond, ◌&&◌, eqb, ltb, leb, List, [], ◌∷◌, map, length, get_or, None, unwrap_or, sym, refl, ap, ◌∙◌, subst, inl, inr, arith, length-append, eqb-true}
-use mathlib.Core.Path.{fun_ext}
-use borrow.Author.Tests.{not-false}
-use Rattle.std.proofs.lemmas.List.{get_or_past, get_or_push, get_or_append_left, length-map}
-use Rattle.std.proofs.lemmas.Bool.{cases_lt}
-use Rattle.finding.proofs.Bools.{both}
-use Rattle.nodes.specs.Bytes.{le16}
-use Rattle.nodes.specs.Kinds.{number, between}
+use Rattle.std.proofs.Common.{◌≡◌, ℕ, zero, suc, ◌<◌, ◌≤◌, true, cond, eqb, ltb, List, [], ◌∷◌, ◌++◌, map, length, None, unwrap_or, sym, refl, ap, subst}
+use Rattle.std.proofs.lemmas.List.{length-map}
+use Rattle.nodes.specs.Kinds.{between}
 use Rattle.nodes.specs.Fields.{fields, value_fits}
 use Rattle.nodes.specs.Nodes.{node_at}
 use Rattle.nodes.specs.Shapes.{shape, Arranged}
-use Rattle.nodes.specs.Tree.{children}
 use Rattle.nodes.specs.declared.node.Node.{Node}
-use Rattle.layout.specs.Head.{part, contents, counted, node_body}
+use Rattle.layout.specs.Head.{node_body}
 use Rattle.layout.specs.Items as items
-use Rattle.layout.specs.Faults.{end_of, kind_byte}
-use Rattle.tree.specs.Spans.{Spanned, Shallow, Family, Chain}
-use Rattle.rule_file.specs.Verdict.{causes, first_fault}
-use Rattle.rule_file.specs.WellFormed.{ends, node_count, WellFormed}
-use Rattle.rule_file.proofs.Judging.{first_clear}
-use Rattle.rule_file.proofs.Parts.{laid, nodes_long}
-use Rattle.rule_file.proofs.Sound.{well_formed}
-use Rattle.rules.specs.Tables.{blank, tabulate, table_of, node, kind_at, end}
-use Rattle.rules.specs.Shaped.{FittingNode, Shaped, TablesShaped}
+use Rattle.tree.specs.Spans.{Spanned, Shallow, Family}
+use Rattle.rule_file.specs.Verdict.{first_fault}
+use Rattle.rule_file.specs.WellFormed.{node_count}
+use Rattle.node_rules.specs.Tables as newer
+use Rattle.rule_laws.specs.Shaped as newer_shaped
+use Rattle.rule_laws.proofs.Tabling as newer_tabling
+use Rattle.rules.specs.Tables.{blank, tabulate, table_of, node}
+use Rattle.rules.specs.Shaped.{FittingNode, TablesShaped}
 
-tabulate_length : {X : Type 0} (f : ℕ → X) (n : ℕ) → length (tabulate f n) ≡ n
-tabulate_length f zero = refl
-tabulate_length f (suc n) = length-append (tabulate f n) (f n ∷ []) ∙ omega (arith, tabulate_length f n)
-
-tabulate_at : {X : Type 0} (f : ℕ → X) (n i : ℕ) (d : X) → i < n → get_or (tabulate f n) i d ≡ f i
-tabulate_at f zero i d l = absurd (omega arith)
-tabulate_at f (suc n) i d l =
-    elim (cases_lt i n) [
-      | inl lt ↦ get_or_append_left (tabulate f n) (f n ∷ []) d i (omega (arith, tabulate_length f n)) ∙ tabulate_at f n i d lt
-      | inr le ↦ let q : i ≡ n = omega arith in rw q (get_or_push (tabulate f n) (f n) d n (tabulate_length f n))
-    ]
-
--- the nodes are whole records
-counted_whole : (file : List ℕ) → counted (contents file) ≡ true → (part file 4).length % 16 ≡ 0
-counted_whole file h =
-    let n = (part file 4).length in
-    let a = both (leb 1 n) (leb n 16384 && eqb (n % 16) 0) h in
-    let b = both (leb n 16384) (eqb (n % 16) 0) a.1 in eqb-true (n % 16) 0 b.1
-
-body_whole : (file : List ℕ) → first_fault file ≡ None → length (node_body file) % 16 ≡ 0
-unfolding first_fault
-body_whole file h =
-    let clear = first_clear causes file h in
-    let w = laid file (not-false _ (clear.1.1.0 0 (omega arith))) in
-    rw (nodes_long file w) (counted_whole file (not-false _ (clear.1.1.1.0 0 (omega arith))))
-
--- past the last node there is no size
-past_end : (body : List ℕ) (i : ℕ) → length body % 16 ≡ 0 → length body / 16 ≤ i → le16 body (16 * i + 4) ≡ 0
-past_end body i whole l =
-    let a : get_or body (16 * i + 4) 0 ≡ 0 = get_or_past body (16 * i + 4) 0 (omega arith) in
-    let b : get_or body (16 * i + 4 + 1) 0 ≡ 0 = get_or_past body (16 * i + 4 + 1) 0 (omega arith) in
-    rw (a, b) refl
+tabulate_same : {X : Type 0} (f : ℕ → X) (n : ℕ) → newer.tabulate f n ≡ tabulate f n
+tabulate_same f zero = refl
+tabulate_same f (suc n) = ap (λ xs. xs ++ f n ∷ []) (tabulate_same f n)
 
 module _ (file : List ℕ) (none : first_fault file ≡ None) where
-  sound : WellFormed file
-  sound = well_formed file none
+  shaped : newer_shaped.Shaped (newer.nodes_of file) (length (items.names file)) (length (items.strings file))
+  shaped = newer_tabling.tables_shaped file none
 
-  table_long : length (table_of file).nodes ≡ node_count file
+  nodes_same : newer.nodes_of file ≡ (table_of file).nodes
+  unfolding newer.nodes_of table_of
+  nodes_same = tabulate_same (λ i. unwrap_or (node_at (node_body file) i) blank) (node_count file)
+
+  names_long : length (items.names file) ≡ length (table_of file).names
   unfolding table_of
-  table_long = tabulate_length (λ i. unwrap_or (node_at (node_body file) i) blank) (node_count file)
+  names_long = sym (length-map (items.names file) items.text)
 
-  node_is : (i : ℕ) (l : i < node_count file) → node (table_of file) i ≡ (sound.good_nodes i l).0
+  strings_long : length (items.strings file) ≡ length (table_of file).strings
   unfolding table_of
-  node_is i l =
-      tabulate_at (λ i. unwrap_or (node_at (node_body file) i) blank) (node_count file) i blank l
-      ∙ ap (λ o. unwrap_or o blank) (sound.good_nodes i l).1.shown
+  strings_long = sym (length-map (items.strings file) items.text)
 
-  kind_is : (i : ℕ) → i < node_count file → kind_byte (node_body file) i ≡ kind_at (table_of file) i
-  kind_is i l = (sound.good_nodes i l).1.kind ∙ ap (λ n. number n.kind) (sym (node_is i l))
+  along : (P : List Node → Type 0) → P (newer.nodes_of file) → P (table_of file).nodes
+  along P p = subst P nodes_same p
 
-  node_past : (i : ℕ) → node_count file ≤ i → node (table_of file) i ≡ blank
-  node_past i l = get_or_past (table_of file).nodes i blank (omega (arith, table_long))
-
-  end_is : (i : ℕ) → ends file i ≡ end (table_of file) i
-  unfolding end_of
-  end_is i =
-      elim (cases_lt i (node_count file)) [
-        | inl lt ↦ (sound.good_nodes i lt).1.size ∙ ap (λ n. i + n.size) (sym (node_is i lt))
-        | inr le ↦ ap (λ z. i + z) (past_end (node_body file) i (body_whole file none) le) ∙ ap (λ n. i + n.size) (sym (node_past i le))
-      ]
-
-  ends_are : ends file ≡ end (table_of file)
-  ends_are = fun_ext end_is
-
-  kinds_are : (j stop : ℕ) (cs : List ℕ) → stop ≤ node_count file → Chain (ends file) j stop cs → map (kind_byte (node_body file)) cs ≡ map (kind_at (table_of file)) cs
-  kinds_are j stop [] l h = refl
-  kinds_are j stop (c ∷ cs) l h =
-      ap (λ k. k ∷ map (kind_byte (node_body file)) cs) (kind_is c (omega (arith, h.0, h.1.0)))
-      ∙ ap (λ ks. kind_at (table_of file) c ∷ ks) (kinds_are (ends file j) stop cs l h.1.1)
-
-  arranged_at : (i : ℕ) (l : i < node_count file) → Arranged (shape (node (table_of file) i).kind) (map (kind_at (table_of file)) (children (end (table_of file)) i))
-  arranged_at i l =
-      let a = (sound.good_nodes i l).1.children in
-      let m = kinds_are (i + 1) (ends file i) (children (ends file) i) (sound.spans.within i l) (sound.families.ordered i l) in
-      subst (λ (e : ℕ → ℕ). Arranged (shape (node (table_of file) i).kind) (map (kind_at (table_of file)) (children e i))) ends_are
-      (subst (λ (n : Node). Arranged (shape n.kind) (map (kind_at (table_of file)) (children (ends file) i))) (sym (node_is i l))
-      (subst (λ (ks : List ℕ). Arranged (shape (sound.good_nodes i l).0.kind) ks) m a))
-
-  names_long : length (table_of file).names ≡ length (items.names file)
-  unfolding table_of
-  names_long = length-map (items.names file) items.text
-
-  strings_long : length (table_of file).strings ≡ length (items.strings file)
-  unfolding table_of
-  strings_long = length-map (items.strings file) items.text
-
-  fitting : (i : ℕ) → i < node_count file → FittingNode (table_of file) i
+  fitting : (i : ℕ) → i < length (newer.nodes_of file) → FittingNode (table_of file) i
   fitting i l =
-      let g = (sound.good_nodes i l).1 in
-      let q = sym (node_is i l) in
+      let fit = shaped.nodes_fit i l in
       record {
-        tag = subst (λ (n : Node). between (fields n.kind).first (fields n.kind).last n.tag ≡ true) q g.tag;
-        name = subst (λ (k : ℕ). cond (fields (node (table_of file) i).kind).named (ltb (node (table_of file) i).name k) (eqb (node (table_of file) i).name 0) ≡ true) (sym names_long)
-            (subst (λ (n : Node). cond (fields n.kind).named (ltb n.name (length (items.names file))) (eqb n.name 0) ≡ true) q g.name);
-        value = subst (λ (k : ℕ). value_fits (fields (node (table_of file) i).kind).value (node (table_of file) i).tag k (node (table_of file) i).value ≡ true) (sym strings_long)
-            (subst (λ (n : Node). value_fits (fields n.kind).value n.tag (length (items.strings file)) n.value ≡ true) q g.value);
-        children_arranged = arranged_at i l;
-      }
-
-  shaped_table : Shaped (table_of file)
-  shaped_table =
-      let n = sym table_long in
-      record {
-        few = subst (λ (k : ℕ). (1 ≤ k) × (k ≤ 1024)) n sound.few_nodes;
-        program = sym (kind_is 0 sound.few_nodes.0) ∙ sound.program;
-        nodes_fit = λ i l. fitting i (omega (arith, table_long));
-        spans = subst (λ (k : ℕ). Spanned (end (table_of file)) k) n (subst (λ (e : ℕ → ℕ). Spanned e (node_count file)) ends_are sound.spans);
-        shallow = subst (λ (k : ℕ). Shallow (end (table_of file)) k) n (subst (λ (e : ℕ → ℕ). Shallow e (node_count file)) ends_are sound.shallow);
-        families = subst (λ (k : ℕ). Family (end (table_of file)) k) n (subst (λ (e : ℕ → ℕ). Family e (node_count file)) ends_are sound.families);
+        tag = along (λ ns. between (fields (newer.node ns i).kind).first (fields (newer.node ns i).kind).last (newer.node ns i).tag ≡ true) fit.tag;
+        name = subst (λ (k : ℕ). cond (fields (node (table_of file) i).kind).named (ltb (node (table_of file) i).name k) (eqb (node (table_of file) i).name 0) ≡ true) names_long
+            (along (λ ns. cond (fields (newer.node ns i).kind).named (ltb (newer.node ns i).name (length (items.names file))) (eqb (newer.node ns i).name 0) ≡ true) fit.name);
+        value = subst (λ (k : ℕ). value_fits (fields (node (table_of file) i).kind).value (node (table_of file) i).tag k (node (table_of file) i).value ≡ true) strings_long
+            (along (λ ns. value_fits (fields (newer.node ns i).kind).value (newer.node ns i).tag (length (items.strings file)) (newer.node ns i).value ≡ true) fit.value);
+        children_arranged = along (λ ns. Arranged (shape (newer.node ns i).kind) (map (newer.kind_at ns) (newer.parts ns i))) fit.children_arranged;
       }
 
 pub tables_shaped : TablesShaped
-tables_shaped file none = shaped_table file none
+tables_shaped file none =
+    record {
+      few = along file none (λ ns. (1 ≤ length ns) × (length ns ≤ 1024)) (shaped file none).few;
+      program = along file none (λ ns. newer.kind_at ns 0 ≡ 1) (shaped file none).program;
+      nodes_fit = λ i l. fitting file none i (along file none (λ ns. i < length ns → i < length (newer.nodes_of file)) (λ l. l) l);
+      spans = along file none (λ ns. Spanned (newer.end ns) (length ns)) (shaped file none).spans;
+      shallow = along file none (λ ns. Shallow (newer.end ns) (length ns)) (shaped file none).shallow;
+      families = along file none (λ ns. Family (newer.end ns) (length ns)) (shaped file none).families;
+    }
