@@ -67,7 +67,7 @@ impl NodeTest for ChildrenTest<'_> {
     ghost fails = { λ t. bad_children t.nodes.now };
 
     fn fails_at(&self, i: usize) -> bool {
-        has_bad_children(self.nodes, i)
+        has_bad_children(self.nodes, i as u32)
     }
 }
 
@@ -97,7 +97,7 @@ fn size_place(reader: &Reader, n: usize) -> Option<u32>
     requires { (0 < n) × ((n ≤ 1024) × (n ≡ count (node_body (file_of reader.now)))) }
     ensures { result ≡ place_of NodeSize (file_of reader.now) }
 {
-    size_fault(reader.node_body(), n)
+    size_fault(reader.node_body(), n as u32)
 }
 
 fn depth_place(reader: &Reader, n: usize) -> Option<u32>
@@ -105,7 +105,7 @@ fn depth_place(reader: &Reader, n: usize) -> Option<u32>
     requires sized { place_of NodeSize (file_of reader.now) ≡ None }
     ensures { result ≡ place_of NodeDepth (file_of reader.now) }
 {
-    depth_fault(reader.node_body(), n)
+    depth_fault(reader.node_body(), n as u32)
 }
 
 /// The first fault of the nodes, where there are 1 to 1,024: of the first cause that applies, the lowest node.
