@@ -99,6 +99,5 @@ pub(crate) fn has_bad_children(nodes: &[u8], i: u32) -> bool
     requires { i < 1024 }
     ensures { result ≡ bad_children nodes.now i }
 {
-    !do_children_fit(nodes, i)
-        || i == 0 && byte(nodes, 16 * i as usize) != Kind::Program.number()
+    !do_children_fit(nodes, i) || i == 0 && byte(nodes, 16 * i as usize) != Kind::Program.number()
 }

@@ -1,4 +1,4 @@
-use Rattle.std.proofs.Common.{rules, sym, ap, ◌∙◌, map}
+use Rattle.std.proofs.Common.{rules, sym, ap, ◌∙◌}
 use Rattle.nodes.specs.Kinds.{kind_of}
 use Rattle.tree.specs.Children.{kinds_left}
 use Rattle.tree.proofs.Filling.{fit_unknown, fit_start, filled_by, known, unknown}
