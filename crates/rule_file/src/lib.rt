@@ -28,7 +28,7 @@ fn judge(reader: &Reader) -> Option<Finding<FileFault>>
     if let Some(fault) = texts::faults::first_fault(reader) {
         return Some(fault);
     }
-    tree::faults::first_fault(reader)
+    tree::faults::check(reader).err()
 }
 
 /// Examines a file: a reader over it, or its first fault.

@@ -1,12 +1,13 @@
 -- Children that fill slots: one slot at a time, and one child at a time.
-use Rattle.std.proofs.Common.{Bor, ◌≡◌, ℕ, Bool, false, List, [], ◌∷◌, map, Some, None, Option, sym, refl, ap, ◌∙◌}
+use Rattle.std.proofs.Common.{Bor, ◌≡◌, ℕ, Bool, false, List, [], ◌∷◌, map, Some, None, Ok, Option, Result, sym, refl, ap, ◌∙◌}
 use Rattle.std.specs.Iterator.{Yields, YieldsFirst}
 use Rattle.std.specs.Option.{MatchOption}
 use Rattle.std.specs.List.{FoldsTo}
-use Rattle.nodes.specs.Kinds.{kind_of}
+use Rattle.nodes.specs.Kinds.{kind_of, named}
 use Rattle.layout.specs.Faults.{end_of, kind_byte, children_fit}
 use Rattle.nodes.specs.Tree.{children}
 use Rattle.nodes.specs.declared.kind.Kind.{Kind}
+use Rattle.nodes.specs.declared.kind.UnknownKind.{UnknownKind}
 use Rattle.nodes.specs.Shapes.{shape, filled, satisfied, fill}
 use Rattle.nodes.specs.declared.shape.Slot.{Slot}
 
@@ -17,6 +18,14 @@ fit_start nodes i kind slots ks h s e = rw (h, s, e) refl
 pub fit_unknown : (nodes : List ℕ) (i : ℕ) → kind_of (kind_byte nodes i) ≡ None → children_fit nodes i ≡ false
 unfolding children_fit
 fit_unknown nodes i h = rw h refl
+
+pub known : (n : ℕ) (kind : Kind) (o : Option Kind) → Ok kind ≡ named n o → o ≡ Some kind
+known n kind (Some k) h = cc
+known n kind None h = cc
+
+pub unknown : (n : ℕ) (o : Option Kind) (r : Result Kind UnknownKind) → ((kind : Kind) → r ≡ Ok kind → ⊥) → r ≡ named n o → o ≡ None
+unknown n (Some k) r h e = absurd (h k e)
+unknown n None r h e = refl
 
 -- A chain that fills slots with the numbers that are left of a row, and asks then whether they are satisfied.
 module _ {S F : Type 0} (rest : S → List ℕ) (turn : F × Bor (List Slot) → ℕ → F × Bor (List Slot) → Type 0) (turns : (p : F × Bor (List Slot)) (k : ℕ) (q : F × Bor (List Slot)) → turn p k q → filled p.1.now k ≡ Some q.1.now) where

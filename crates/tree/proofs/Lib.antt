@@ -4,3 +4,4 @@ pub mod Families
 pub mod Arranging
 pub mod Completing
 pub mod Walking
+pub mod Searching

@@ -1,12 +1,13 @@
 // The children of a node: they fill the slots of its kind.
-ghost use Rattle.std.specs.Prelude.{◌≡◌, ◌^◌, ◌<◌, map};
+ghost use Rattle.std.specs.Prelude.{◌≡◌, ◌<◌, map};
 ghost use Rattle.std.specs.Option.{option_map};
 ghost use Rattle.std.specs.Iterator.{YieldsFirst, item_count};
 ghost use Rattle.layout.specs.Faults.{end_of, kind_byte, children_fit, bad_children};
-ghost use Rattle.nodes.specs.Tree.{children, children_from};
-ghost use Rattle.nodes.specs.Shapes.{asks, again, filled, satisfied};
+ghost use Rattle.nodes.specs.Tree.{children};
+ghost use Rattle.nodes.specs.Shapes.{filled, satisfied};
+ghost use Rattle.tree.specs.Children.{kinds_left};
 
-use crate::walk::end;
+use layout::outline::{end_of, size_of};
 use nodes::bytes::byte;
 use nodes::kind::Kind;
 use nodes::shape::{Slot, Times};
@@ -39,26 +40,25 @@ fn is_satisfied(slots: &[Slot]) -> bool
 #[derive(Drop)]
 struct ChildKinds<'a> {
     nodes: &'a [u8],
-    // where the next child begins, and where the last one ends
     next: usize,
-    stop: usize,
+    // where the last one ends
+    stop: u32,
     // how many more are looked at: at most as many as the node spans nodes
-    left: usize,
-    ghost near: { stop < 2 ^ 20 },
+    left: u16,
 }
 
 impl<'a> ChildKinds<'a> {
     // The kinds of the children of node i.
-    fn of(nodes: &'a [u8], i: usize) -> ChildKinds<'a>
+    fn of(nodes: &'a [u8], i: u32) -> ChildKinds<'a>
         requires { i < 1024 }
-        ensures { map (kind_byte result.nodes.now) (children_from result.left (end_of result.nodes.now) result.next result.stop) ≡ map (kind_byte nodes.now) (children (end_of nodes.now) i) }
+        ensures { kinds_left result ≡ map (kind_byte nodes.now) (children (end_of nodes.now) i) }
     {
-        let stop = end(nodes, i);
+        let size = size_of(nodes, i);
         ChildKinds {
             nodes,
-            next: i + 1,
-            stop,
-            left: stop.saturating_sub(i + 1),
+            next: i as usize + 1,
+            stop: i + u32::from(size),
+            left: size.saturating_sub(1),
         }
     }
 }
@@ -66,27 +66,27 @@ impl<'a> ChildKinds<'a> {
 impl Iterator for ChildKinds<'_> {
     type Item = u8;
 
-    ghost next_gives = { YieldsFirst (λ c. map (kind_byte c.nodes.now) (children_from c.left (end_of c.nodes.now) c.next c.stop)) };
+    ghost next_gives = { YieldsFirst kinds_left };
 
-    ghost remaining = { item_count (λ c. map (kind_byte c.nodes.now) (children_from c.left (end_of c.nodes.now) c.next c.stop)) };
+    ghost remaining = { item_count kinds_left };
 
     fn next(&mut self) -> Option<u8> {
-        if self.left == 0 || self.next >= self.stop {
+        if self.left == 0 || self.next >= self.stop as usize {
             return None;
         }
         let kind = byte(self.nodes, 16 * self.next);
-        self.next = end(self.nodes, self.next);
+        self.next = end_of(self.nodes, self.next as u32);
         self.left -= 1;
         Some(kind)
     }
 }
 
 // Whether the children of node i fill the slots of its kind.
-fn do_children_fit(nodes: &[u8], i: usize) -> bool
+fn do_children_fit(nodes: &[u8], i: u32) -> bool
     requires { i < 1024 }
     ensures { result ≡ children_fit nodes.now i }
 {
-    let Some(kind) = Kind::from_number(byte(nodes, 16 * i)) else {
+    let Ok(kind) = Kind::try_from(byte(nodes, 16 * i as usize)) else {
         return false;
     };
     ChildKinds::of(nodes, i)
@@ -95,9 +95,9 @@ fn do_children_fit(nodes: &[u8], i: usize) -> bool
 }
 
 /// Whether the children of node i are not as its kind asks, or node 0 is no program.
-pub(crate) fn has_bad_children(nodes: &[u8], i: usize) -> bool
+pub(crate) fn has_bad_children(nodes: &[u8], i: u32) -> bool
     requires { i < 1024 }
     ensures { result ≡ bad_children nodes.now i }
 {
-    !do_children_fit(nodes, i) || i == 0 && byte(nodes, 16 * i) != 1
+    !do_children_fit(nodes, i) || i == 0 && byte(nodes, 16 * i as usize) != Kind::Program.number()
 }

@@ -1,21 +1,12 @@
 // A walk over the nodes, with a stack of the nodes around.
-ghost use Rattle.std.specs.Prelude.{◌≡◌, ℕ, ◌+◌, ◌-◌, ◌^◌, ◌<◌, ◌≤◌, ◌||◌, map, nat_le, nat_lt, slice_index};
+ghost use Rattle.std.specs.Prelude.{◌≡◌, ℕ, ◌+◌, ◌-◌, ◌<◌, ◌≤◌, ◌||◌, map, nat_le, nat_lt, slice_index};
 ghost use Rattle.std.specs.Iterator.{YieldsFirst, item_count};
 ghost use Rattle.std.specs.List.{range_with_len};
 ghost use Rattle.layout.specs.Faults.{end_of};
 ghost use Rattle.nodes.specs.Tree.{parent};
 
 use crate::MOST_NODES;
-use nodes::bytes::u16_at;
-
-/// One past the last node that node i spans.
-pub(crate) fn end(nodes: &[u8], i: usize) -> usize
-    requires { i < 2 ^ 20 }
-    ensures value { result ≡ end_of nodes.now i }
-    ensures bound { result < i + 65536 }
-{
-    i + u16_at(nodes, 16 * i as u32 + 4) as usize
-}
+use layout::outline::end_of;
 
 /// A node on the walk: where it ends, where its parent ends, and how deep it lies where no size is at fault.
 #[derive(Clone, Copy)]
@@ -40,11 +31,12 @@ impl Met {
 #[derive(Drop)]
 pub(crate) struct Walk<'a> {
     nodes: &'a [u8],
-    count: usize,
-    next: usize,
+    count: u32,
+    next: u32,
     stack: [u16; MOST_NODES],
     top: usize,
     ghost few: { count ≤ 1024 },
+    ghost within: { next ≤ count },
     ghost room: { top < next },
     ghost bottom: { slice_index stack 0 ≡ 0 },
     ghost rising: { (k : ℕ) → k < top → slice_index stack k < slice_index stack (k + 1) },
@@ -57,8 +49,8 @@ impl<'a> Walk<'a> {
     ghost use Rattle.tree.specs.Walk.{ahead, met_at};
 
     /// A walk over so many nodes.
-    pub(crate) fn over(nodes: &'a [u8], count: usize) -> Walk<'a>
-        requires { count ≤ 1024 }
+    pub(crate) fn over(nodes: &'a [u8], count: u32) -> Walk<'a>
+        requires { (0 < count) × (count ≤ 1024) }
         ensures { ahead result ≡ map (met_at (end_of nodes.now)) (range_with_len 1 (count - 1)) }
     {
         Walk {
@@ -70,15 +62,21 @@ impl<'a> Walk<'a> {
         }
     }
 
+    // Where the node on top ends.
+    fn top_end(&self) -> usize
+        ensures { result ≡ end_of self.now.nodes.now (slice_index self.now.stack self.now.top) }
+    {
+        end_of(self.nodes, u32::from(self.stack[self.top]))
+    }
+
     // Leaves the nodes that do not span the next one. The top one is then its parent.
     fn close(&mut self)
-        requires { self.old.next < self.old.count }
         ensures parent { slice_index self.new.stack self.new.top ≡ parent (end_of self.new.nodes.now) self.new.next }
         ensures nodes { self.new.nodes ≡ self.old.nodes }
         ensures next { self.new.next ≡ self.old.next }
         ensures count { self.new.count ≡ self.old.count }
     {
-        while self.top > 0 && end(self.nodes, self.stack[self.top] as usize) <= self.next {
+        while self.top > 0 && self.top_end() <= self.next as usize {
             self.top -= 1;
         }
     }
@@ -94,18 +92,18 @@ impl Iterator for Walk<'_> {
     ghost remaining = { item_count ahead };
 
     fn next(&mut self) -> Option<Met> {
-        if self.next >= self.count {
+        if self.next == self.count {
             return None;
         }
         self.close();
         let node = self.next;
-        let limit = end(self.nodes, self.stack[self.top] as usize);
+        let limit = self.top_end();
         self.top += 1;
         self.stack[self.top] = node as u16;
         self.next += 1;
         Some(Met {
-            node: node as u32,
-            stop: end(self.nodes, node),
+            node,
+            stop: end_of(self.nodes, node),
             limit,
             depth: self.top + 1,
         })

@@ -11,8 +11,8 @@ use Rattle.tree.proofs.Nesting.{fault_root, fine_root, fault_later}
 use Rattle.tree.proofs.Walking.{lowest_met}
 use Rattle.tree.proofs.sizes.size_fault.Goals as goal
 
-pub returns-then-end-n : goal.returns-then-end-n
-returns-then-end-n c =
+pub returns-then-end_of-n : goal.returns-then-end_of-n
+returns-then-end_of-n c =
     sym (lowest_at (bad_size _ _) _ 0 (omega arith) (λ k l. absurd (omega arith)) (fault_root (end_of c.args.nodes.now) c.args.n (λ q. omega arith)))
 
 pub returns : goal.returns
