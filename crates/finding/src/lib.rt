@@ -1,13 +1,15 @@
 // Every finding has one form: a cause of any kind with the place where it was found.
 //
-// Proved here: a cause has the number that its definition gives it, and a finding answers that number with its place.
+// Proved here: a cause has the number that its definition gives it, a finding answers that number with its place, and a check
+// passes where nothing was found.
 // What the causes are is for the crates above to say: faults of a file, violations of the rules, stops of a run.
 #![tactic(auto)]
 
 ghost use Rattle.std.specs.Prelude.{◌≡◌, ℕ};
+ghost use Rattle.finding.specs.Checks.{found, passes_unless};
 
 /// A cause with the place where it was found: a name's, a string's or a node's number, or 0 for the file as a whole.
-#[derive(Clone, Copy)]
+#[derive(Clone, Copy, PartialEq, Eq, Debug)]
 pub struct Finding<C> {
     pub place: u32,
     pub cause: C,
@@ -29,6 +31,18 @@ impl<C> Finding<C> {
         ensures { result ≡ record { place = place; cause = cause } }
     {
         Finding { place, cause }
+    }
+}
+
+impl<C: Drop> Finding<C> {
+    /// A check that a cause is found nowhere: it passes where there is no place, and else fails with the cause at that place.
+    pub fn absent(cause: C, place: Option<u32>) -> Result<(), Finding<C>>
+        ensures { result ≡ passes_unless (found cause place) }
+    {
+        match place {
+            None => Ok(()),
+            Some(place) => Err(Finding::new(place, cause)),
+        }
     }
 }
 

@@ -1,9 +1,9 @@
 -- The items of a body, taken one by one.
-use Rattle.std.proofs.Common.{◌≡◌, ℕ, zero, suc, ◌+◌, ◌-◌, ◌<◌, ◌≤◌, min, List, [], ◌∷◌, length, get_or, take, drop, Some, None, Option, sym, refl, ap, ◌∙◌, inl, inr, arith, Bor}
+use Rattle.std.proofs.Common.{◌≡◌, ℕ, zero, suc, ◌+◌, ◌-◌, ◌<◌, ◌≤◌, min, List, [], ◌∷◌, length, get_or, take, drop, Some, None, Option, option_map, slice_get, sym, refl, ap, ◌∙◌, inl, inr, arith, Bor}
 use Rattle.std.proofs.lemmas.List.{take_all, drop_all}
 use Rattle.std.proofs.lemmas.Bool.{cases_lt}
 use Rattle.layout.specs.Items.{items, nth}
-use Rattle.layout.specs.Readers.{Stepped, Shows}
+use Rattle.layout.specs.Readers.{Shows}
 
 pub items_none : (n : ℕ) → items n [] ≡ []
 items_none zero = refl
@@ -32,15 +32,12 @@ items_few zero bs = omega arith
 items_few (suc n) [] = omega arith
 items_few (suc n) (b ∷ bs) = let h = items_few n (drop b bs) in omega arith
 
--- one item further on
-pub nth_next : {X : Type 0} (all later : List X) (x : X) (k i : ℕ) → i < k → all ≡ x ∷ later → nth all (k - i) ≡ nth later (k - (i + 1))
-nth_next all later x k i l h =
-    let e : k - i ≡ suc (k - (i + 1)) = omega arith in rw (h, e) refl
+pub nth_is : {X : Type 0} (all : List X) (k : ℕ) → nth all k ≡ slice_get all k
+nth_is [] k = refl
+nth_is (x ∷ xs) zero = refl
+nth_is (x ∷ xs) (suc k) = nth_is xs k
 
-pub nth_none : {X : Type 0} (all : List X) (k : ℕ) → all ≡ [] → nth all k ≡ None
-nth_none all k h = rw h refl
-
--- the item that comes next
-pub nth_first : (r : Option (Bor (List ℕ))) (whole : Option (List ℕ)) (before after : List (List ℕ)) (k : ℕ) → k ≡ 0 → whole ≡ nth before k → Stepped r before after → Shows r whole
-nth_first None whole before after k z w h = w ∙ nth_none before k h.0
-nth_first (Some item) whole before after k z w h = w ∙ rw (h.0, z) refl
+-- the window that is shown is item k
+pub shows_nth : (r : Option (Bor (List ℕ))) (all : List (List ℕ)) (k : ℕ) → option_map (λ x. x.now) r ≡ slice_get all k → Shows r (nth all k)
+shows_nth None all k h = nth_is all k ∙ sym h
+shows_nth (Some item) all k h = nth_is all k ∙ sym h

@@ -3,52 +3,39 @@ ghost use Rattle.layout.specs.Faults.{number_of};
 
 use finding::Numbered;
 
-/// Why a file is refused before its rules are looked at, in the order in which the causes are tried.
-#[derive(Clone, Copy)]
+/// Why a file is refused before its rules are looked at, by number, in the order in which the causes are tried.
+#[derive(Clone, Copy, PartialEq, Eq, Debug)]
 pub enum FileFault {
     /// fewer than 28 bytes or more than 24,576
-    FileSize,
+    FileSize = 1,
     /// byte 0 is not 1, or one of the bytes 1 to 3 is not 0
-    Edition,
+    Edition = 2,
     /// the bodies do not stand one after another from byte 28 to the end
-    BodyOrder,
+    BodyOrder = 3,
     /// no node, part of a node, or more than 1,024 nodes
-    NodeCount,
+    NodeCount = 4,
     /// a name that is cut off, has no length from 1 to 31, or is the 256th
-    NameLength,
+    NameLength = 5,
     /// a name that is no identifier, or a keyword
-    NameText,
+    NameText = 6,
     /// a name that equals a lower one
-    NameRepeated,
+    NameRepeated = 7,
     /// a string that is cut off, longer than 63, holds a byte that is not allowed, or is the 256th
-    StringText,
+    StringText = 8,
     /// a field that its node's kind does not allow
-    NodeFields,
+    NodeFields = 9,
     /// a size of 0 or beyond the parent's end, or node 0 not spanning all
-    NodeSize,
+    NodeSize = 10,
     /// children of a wrong kind, order or number, or node 0 no program
-    NodeChildren,
+    NodeChildren = 11,
     /// a node of depth 65
-    NodeDepth,
+    NodeDepth = 12,
 }
 
 impl Numbered for FileFault {
     ghost number = { number_of };
 
     fn number_of(&self) -> u32 {
-        match self {
-            FileFault::FileSize => 1,
-            FileFault::Edition => 2,
-            FileFault::BodyOrder => 3,
-            FileFault::NodeCount => 4,
-            FileFault::NameLength => 5,
-            FileFault::NameText => 6,
-            FileFault::NameRepeated => 7,
-            FileFault::StringText => 8,
-            FileFault::NodeFields => 9,
-            FileFault::NodeSize => 10,
-            FileFault::NodeChildren => 11,
-            FileFault::NodeDepth => 12,
-        }
+        *self as u32
     }
 }

@@ -1,5 +1,6 @@
 // The items of a body of names or of strings, one after another.
 ghost use Rattle.std.specs.Prelude.{◌≡◌, ◌+◌, ◌<◌, min, length, slice_index};
+ghost use Rattle.std.specs.Iterator.{YieldsFirstRef, item_count};
 ghost use Rattle.layout.specs.Items.{split, nth, text_at};
 ghost use Rattle.layout.specs.Readers.{Stepped, Shows, pending};
 
@@ -30,35 +31,21 @@ impl<'a> Items<'a> {
     pub fn next_item(&mut self) -> Option<&'a [u8]>
         ensures { Stepped result (pending self.old) (pending self.new) }
     {
-        if self.left == 0 || self.rest.is_empty() {
-            return None;
-        }
-        let end = item_end(self.rest);
-        let item = &self.rest[0..end];
-        self.rest = &self.rest[end..];
-        self.left -= 1;
-        Some(item)
+        self.next()
     }
 
     /// How many items are to come.
-    pub fn count(mut self) -> u32
+    pub fn count(self) -> u32
         ensures { result ≡ length (pending self.entry) }
     {
-        let mut n = 0;
-        while let Some(_) = self.next_item() {
-            n += 1;
-        }
-        n
+        Iterator::count(self) as u32
     }
 
     // The item that comes after `k` others.
     fn item(mut self, k: u32) -> Option<&'a [u8]>
         ensures { Shows result (nth (pending self.entry) k) }
     {
-        for _ in 0..k {
-            self.next_item()?;
-        }
-        self.next_item()
+        self.nth(k as usize)
     }
 
     /// The text of the item that comes after `k` others: its bytes without the length byte.
@@ -66,6 +53,25 @@ impl<'a> Items<'a> {
         ensures { Shows result (text_at (pending self.entry) k) }
     {
         Some(tail(self.item(k)?))
+    }
+}
+
+impl<'a> Iterator for Items<'a> {
+    type Item = &'a [u8];
+
+    ghost next_gives = { YieldsFirstRef pending };
+
+    ghost remaining = { item_count pending };
+
+    fn next(&mut self) -> Option<&'a [u8]> {
+        if self.left == 0 || self.rest.is_empty() {
+            return None;
+        }
+        let end = item_end(self.rest);
+        let (item, rest) = self.rest.split_at(end);
+        self.rest = rest;
+        self.left -= 1;
+        Some(item)
     }
 }
 

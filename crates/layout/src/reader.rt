@@ -13,14 +13,14 @@ use nodes::bytes::{cut, u32_at};
 use nodes::node::Node;
 
 /// Where a body lies in the file, as the contents tell it.
-#[derive(Clone, Copy)]
+#[derive(Clone, Copy, PartialEq, Eq, Debug)]
 pub struct Part {
     pub offset: u32,
     pub length: u32,
 }
 
 /// The contents of a file: where its three bodies lie.
-#[derive(Clone, Copy)]
+#[derive(Clone, Copy, PartialEq, Eq, Debug)]
 pub struct Contents {
     pub nodes: Part,
     pub names: Part,

@@ -1,6 +1,7 @@
 -- The 25 kinds of nodes, by number.
-use Rattle.std.specs.Prelude.{ℕ, Bool, cond, ◌&&◌, List, [], ◌∷◌, Some, None, Option, ◌==◌, nat_le}
+use Rattle.std.specs.Prelude.{ℕ, Bool, cond, ◌&&◌, List, [], ◌∷◌, Some, None, Ok, Err, Option, Result, ◌==◌, nat_le}
 use Rattle.nodes.specs.declared.kind.Kind.{Kind}
+use Rattle.nodes.specs.declared.kind.UnknownKind.{UnknownKind}
 use Rattle.nodes.specs.declared.kind.Kind.TheVariants.{Program, Import, ScalarDeclaration, ArrayDeclaration, Method, Parameter, Block, Assignment, Step, CallStatement, If, For, While, Return, Break, Continue, ScalarLocation, ArrayLocation, Literal, Unary, Cast, Call, Len, Binary, Text}
 
 abbrev pub number : Kind → ℕ
@@ -41,6 +42,11 @@ numbered (k ∷ ks) n = cond (n == number k) (Some k) (numbered ks n)
 -- The kind that has the number.
 abbrev pub kind_of : ℕ → Option Kind
 kind_of n = numbered kinds n
+
+-- The kind as the answer for a number: where no kind has it, the number is the error.
+abbrev pub named : ℕ → Option Kind → Result Kind UnknownKind
+named n None = Err (record { 0 = n })
+named n (Some k) = Ok k
 
 abbrev pub between : ℕ → ℕ → ℕ → Bool
 between low high n = nat_le low n && nat_le n high

@@ -1,8 +1,11 @@
-ghost use Rattle.std.specs.Prelude.{◌≡◌};
-ghost use Rattle.nodes.specs.Kinds.{number, kind_of};
+ghost use Rattle.std.specs.Prelude.{◌≡◌, ◌||◌, ◌==◌};
+ghost use Rattle.nodes.specs.Kinds.{number, kind_of, named, between};
+
+use std::error::Error;
+use std::fmt;
 
 /// The 25 kinds of nodes, in the order of their numbers from 1.
-#[derive(Clone, Copy)]
+#[derive(Clone, Copy, PartialEq, Eq, Debug)]
 pub enum Kind {
     Program = 1,
     Import,
@@ -31,45 +34,140 @@ pub enum Kind {
     Text,
 }
 
+/// A number that no kind has.
+#[derive(Clone, Copy, PartialEq, Eq, Debug)]
+pub struct UnknownKind(pub u8);
+
+impl From<Kind> for u8 {
+    ghost from_gives = { λ kind n. n ≡ number kind };
+
+    fn from(kind: Kind) -> u8 {
+        kind as u8
+    }
+}
+
+impl TryFrom<u8> for Kind {
+    type Error = UnknownKind;
+
+    ghost try_from_gives = { λ n kind. kind ≡ named n (kind_of n) };
+
+    fn try_from(number: u8) -> Result<Kind, UnknownKind> {
+        match number {
+            1 => Ok(Kind::Program),
+            2 => Ok(Kind::Import),
+            3 => Ok(Kind::ScalarDeclaration),
+            4 => Ok(Kind::ArrayDeclaration),
+            5 => Ok(Kind::Method),
+            6 => Ok(Kind::Parameter),
+            7 => Ok(Kind::Block),
+            8 => Ok(Kind::Assignment),
+            9 => Ok(Kind::Step),
+            10 => Ok(Kind::CallStatement),
+            11 => Ok(Kind::If),
+            12 => Ok(Kind::For),
+            13 => Ok(Kind::While),
+            14 => Ok(Kind::Return),
+            15 => Ok(Kind::Break),
+            16 => Ok(Kind::Continue),
+            17 => Ok(Kind::ScalarLocation),
+            18 => Ok(Kind::ArrayLocation),
+            19 => Ok(Kind::Literal),
+            20 => Ok(Kind::Unary),
+            21 => Ok(Kind::Cast),
+            22 => Ok(Kind::Call),
+            23 => Ok(Kind::Len),
+            24 => Ok(Kind::Binary),
+            25 => Ok(Kind::Text),
+            _ => Err(UnknownKind(number)),
+        }
+    }
+}
+
+impl fmt::Display for UnknownKind {
+    fn fmt<W: fmt::Write>(&self, f: &mut fmt::Formatter<W>) -> fmt::Result {
+        write!(f, "no kind of node has the number {}", self.0)
+    }
+}
+
+impl Error for UnknownKind {}
+
 impl Kind {
     /// The kind's number.
     pub fn number(self) -> u8
         ensures { result ≡ number self }
     {
-        self as u8
+        u8::from(self)
     }
 
     /// The kind that has the number, if there is one.
     pub fn from_number(number: u8) -> Option<Kind>
         ensures { result ≡ kind_of number }
     {
-        match number {
-            1 => Some(Kind::Program),
-            2 => Some(Kind::Import),
-            3 => Some(Kind::ScalarDeclaration),
-            4 => Some(Kind::ArrayDeclaration),
-            5 => Some(Kind::Method),
-            6 => Some(Kind::Parameter),
-            7 => Some(Kind::Block),
-            8 => Some(Kind::Assignment),
-            9 => Some(Kind::Step),
-            10 => Some(Kind::CallStatement),
-            11 => Some(Kind::If),
-            12 => Some(Kind::For),
-            13 => Some(Kind::While),
-            14 => Some(Kind::Return),
-            15 => Some(Kind::Break),
-            16 => Some(Kind::Continue),
-            17 => Some(Kind::ScalarLocation),
-            18 => Some(Kind::ArrayLocation),
-            19 => Some(Kind::Literal),
-            20 => Some(Kind::Unary),
-            21 => Some(Kind::Cast),
-            22 => Some(Kind::Call),
-            23 => Some(Kind::Len),
-            24 => Some(Kind::Binary),
-            25 => Some(Kind::Text),
-            _ => None,
-        }
+        Kind::try_from(number).ok()
+    }
+
+    /// Whether it brings a name into force: an import, a variable, a method or a parameter.
+    pub fn declares_name(self) -> bool
+        ensures { result ≡ between 2 6 (number self) }
+    {
+        matches!(
+            self,
+            Kind::Import
+                | Kind::ScalarDeclaration
+                | Kind::ArrayDeclaration
+                | Kind::Method
+                | Kind::Parameter
+        )
+    }
+
+    /// Whether it declares a variable: a scalar, an array or a parameter.
+    pub fn is_variable(self) -> bool
+        ensures { result ≡ (between 3 4 (number self) || number self == 6) }
+    {
+        matches!(
+            self,
+            Kind::ScalarDeclaration | Kind::ArrayDeclaration | Kind::Parameter
+        )
+    }
+
+    /// Whether it is a `for` or a `while`.
+    pub fn is_loop(self) -> bool
+        ensures { result ≡ between 12 13 (number self) }
+    {
+        matches!(self, Kind::For | Kind::While)
+    }
+
+    /// Whether it names what is declared elsewhere: a `for`, a location, a call or a `len`.
+    pub fn uses_name(self) -> bool
+        ensures { result ≡ (number self == 12 || (between 17 18 (number self) || between 22 23 (number self))) }
+    {
+        self == Kind::For || self.is_named_expression()
+    }
+
+    /// Whether it is an expression that names what is declared elsewhere: a location, a call or a `len`.
+    pub fn is_named_expression(self) -> bool
+        ensures { result ≡ (between 17 18 (number self) || between 22 23 (number self)) }
+    {
+        matches!(
+            self,
+            Kind::ScalarLocation | Kind::ArrayLocation | Kind::Call | Kind::Len
+        )
+    }
+
+    /// Whether it is an expression.
+    pub fn is_expression(self) -> bool
+        ensures { result ≡ between 17 24 (number self) }
+    {
+        matches!(
+            self,
+            Kind::ScalarLocation
+                | Kind::ArrayLocation
+                | Kind::Literal
+                | Kind::Unary
+                | Kind::Cast
+                | Kind::Call
+                | Kind::Len
+                | Kind::Binary
+        )
     }
 }

@@ -1,17 +1,10 @@
-use Rattle.std.proofs.Common.{◌≡◌, ◌-◌, refl, ◌∙◌, arith}
-use Rattle.layout.proofs.Splitting.{nth_next, nth_none, nth_first}
+use Rattle.std.proofs.Common.{refl}
+use Rattle.std.proofs.lemmas.Iterator.Consumers.{nth_from_yields_List, YieldsList-from_first}
+use Rattle.layout.specs.Readers.{pending}
+use Rattle.layout.proofs.Splitting.{shows_nth}
 use Rattle.layout.proofs.items.Items.item.Goals as goal
 
-pub loop-init : goal.loop-init
-loop-init c = let e : c.args.k - 0 ≡ c.args.k = omega arith in rw e refl
-
-pub returns-in_err-next_item : goal.returns-in_err-next_item
-returns-in_err-next_item c =
-    rw c.from_residual.ensures (c.loop.invariant ∙ nth_none _ (c.args.k - c.loop.counter) c.in_err-next_item.ensures.0)
-
-pub loop-preserved : goal.loop-preserved
-loop-preserved c =
-    c.loop.invariant ∙ nth_next _ _ _ c.args.k c.loop.counter (omega arith) c.in_ok-next_item.ensures.0
-
 pub returns : goal.returns
-returns c = nth_first _ _ _ _ (c.args.k - c.loop.counter) (omega arith) c.loop.invariant c.next_item-2.ensures
+returns c =
+    shows_nth c.nth.result (pending c.args.self) c.args.k
+    (nth_from_yields_List _ c.nth.new.self c.args.k c.nth.ensures.ran (YieldsList-from_first (λ x. x.now) pending {s = c.args.self} _ refl))

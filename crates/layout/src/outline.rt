@@ -1,0 +1,46 @@
+// Where a node ends and which nodes it lies in, by the sizes alone.
+//
+// Proved: these are the end, the depth and the parent that the definitions of the format give. A body of nodes may be
+// damaged: past its end every size reads as 0, so there is an answer for every node number.
+ghost use Rattle.std.specs.Prelude.{◌≡◌, ◌+◌, ◌*◌, nat_lt};
+ghost use Rattle.nodes.specs.Bytes.{le16};
+ghost use Rattle.layout.specs.Faults.{end_of};
+ghost use Rattle.nodes.specs.Tree.{depth, parent};
+
+use nodes::bytes::byte;
+
+/// How many nodes node `i` spans: itself and all below it.
+pub fn size_of(nodes: &[u8], i: u32) -> u16
+    ensures { result ≡ le16 nodes.now (16 * i + 4) }
+{
+    let at = 16 * i as usize + 4;
+    u16::from_le_bytes([byte(nodes, at), byte(nodes, at + 1)])
+}
+
+/// Where node `i` ends: one past the last node that it spans.
+pub fn end_of(nodes: &[u8], i: u32) -> usize
+    ensures { result ≡ end_of nodes.now i }
+{
+    i as usize + size_of(nodes, i) as usize
+}
+
+// Whether node `j` spans node `i`, where it is no higher.
+fn spans(nodes: &[u8], j: u32, i: u32) -> bool
+    ensures { result ≡ nat_lt i (end_of nodes.now j) }
+{
+    (i as usize) < end_of(nodes, j)
+}
+
+/// How many nodes up to and including `i` span it: node 0 has depth 1.
+pub fn depth(nodes: &[u8], i: u32) -> usize
+    ensures { result ≡ depth (end_of nodes.now) i }
+{
+    (0..=i).filter(|j| spans(nodes, *j, i)).count()
+}
+
+/// The innermost lower node that spans node `i`; 0 where there is none.
+pub fn parent(nodes: &[u8], i: u32) -> u32
+    ensures { result ≡ parent (end_of nodes.now) i }
+{
+    (0..i).rfind(|j| spans(nodes, *j, i)).unwrap_or(0)
+}
