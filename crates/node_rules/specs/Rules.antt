@@ -5,6 +5,7 @@
 -- the lowest rule; after all rules come the cells of the program's own variables.
 use Rattle.std.specs.Prelude.{ℕ, zero, suc, ◌+◌, ◌-◌, Bool, true, false, cond, not, ◌&&◌, ◌||◌, List, [], ◌∷◌, length, pos, is_some, Some, None, Option, ◌==◌, int_le, nat_le, nat_lt}
 use Rattle.finding.specs.declared.Finding.{Finding}
+use Rattle.std.specs.List.{find}
 use Rattle.nodes.specs.Kinds.{number, between}
 use Rattle.nodes.specs.declared.kind.Kind.{Kind}
 use Rattle.nodes.specs.declared.kind.Kind.TheVariants.{Program, Import, ScalarDeclaration, ArrayDeclaration, Method, Parameter, Assignment, Step, CallStatement, For, Return, ScalarLocation, ArrayLocation, Literal, Unary, Cast, Call, Len, Binary, Text}
@@ -16,6 +17,8 @@ use Rattle.node_rules.specs.Violations.{rules}
 use Rattle.node_rules.specs.declared.facts.Declared.{Declared}
 use Rattle.node_rules.specs.declared.facts.Held.{Held}
 use Rattle.node_rules.specs.declared.facts.Facts.{Facts}
+use Rattle.node_rules.specs.declared.judge.Operation.{Operation}
+use Rattle.node_rules.specs.declared.judge.Operation.TheVariants as does
 use Rattle.node_rules.specs.declared.types.Ty.{Ty}
 use Rattle.node_rules.specs.declared.types.Ty.TheVariants.{Int, Bool as Truth}
 use Rattle.node_rules.specs.declared.violation.Violation.{Violation}
@@ -58,6 +61,16 @@ is_declaration f = between 2 6 (number f.node.kind)
 
 abbrev pub is_use : Facts → Bool
 is_use f = is For f || (between 17 18 (number f.node.kind) || between 22 23 (number f.node.kind))
+
+-- What the operator of a unary or binary expression does.
+abbrev pub operation : Facts → Option Operation
+operation f =
+    cond (is Unary f) (Some (cond (f.node.tag == 0) does.Arithmetic does.Logic))
+    (cond (is Binary f)
+    (Some
+    (cond (nat_le f.node.tag 4) does.Arithmetic
+    (cond (nat_le f.node.tag 8) does.Order (cond (nat_le f.node.tag 10) does.Equality does.Logic))))
+    None)
 
 -- Minus, arithmetic and orders; equality; logical operators.
 abbrev pub is_arithmetic : Facts → Bool
@@ -119,8 +132,7 @@ broken_by TooLarge f = is_int_constant f && not (fits_32 f.node.value)
 broken_by TooManyCells f = false
 
 abbrev pub first_broken : List Violation → Facts → Option Violation
-first_broken [] f = None
-first_broken (v ∷ vs) f = cond (broken_by v f) (Some v) (first_broken vs f)
+first_broken vs f = find (λ v. broken_by v f) vs
 
 -- A call of an import gives an int.
 abbrev pub call_type : Option Declared → Option Ty

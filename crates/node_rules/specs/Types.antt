@@ -2,13 +2,18 @@
 --
 -- An expression that breaks a rule, or holds an expression without a type, has none; nor has a string. A missing type counts
 -- as one that fits: a rule is broken only if no types in place of the missing ones would keep it.
-use Rattle.std.specs.Prelude.{ℕ, Bool, true, false, cond, ◌&&◌, ◌||◌, Some, None, Option, ◌==◌}
+use Rattle.std.specs.Prelude.{◌≡◌, ℕ, Bool, true, false, cond, ◌&&◌, ◌||◌, Some, None, Option, Result, ok_or, ◌==◌}
 use Rattle.node_rules.specs.declared.types.Ty.{Ty}
+use Rattle.node_rules.specs.declared.types.UnknownType.{UnknownType}
 use Rattle.node_rules.specs.declared.types.Ty.TheVariants.{Int, Long, Bool as Truth}
 
 -- The type that a tag tells: 1 int, 2 long, 3 bool.
 abbrev pub tagged : ℕ → Option Ty
 tagged n = cond (n == 1) (Some Int) (cond (n == 2) (Some Long) (cond (n == 3) (Some Truth) None))
+
+-- What `Ty::try_from` answers: that type, or the tag that tells none.
+abbrev pub Tells : ℕ → Result Ty UnknownType → Type 0
+Tells n r = r ≡ ok_or (tagged n) (record { 0 = n })
 
 abbrev pub same : Ty → Ty → Bool
 same Int Int = true

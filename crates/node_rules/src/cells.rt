@@ -11,7 +11,9 @@ pub fn cells_of(node: Node) -> u32
 {
     match node.kind {
         Kind::ScalarDeclaration | Kind::Parameter => 1,
-        Kind::ArrayDeclaration if 0 < node.value && node.value <= 2147483647 => node.value as u32,
+        Kind::ArrayDeclaration => {
+            i32::try_from(node.value).map_or(0, |length| length.max(0) as u32)
+        }
         _ => 0,
     }
 }

@@ -1,7 +1,7 @@
 // What a node has of the nodes around and before it.
 
 /// Where a node stands, and what its name means there.
-#[derive(Clone, Copy)]
+#[derive(Clone, Copy, PartialEq, Eq, Debug)]
 pub struct Context {
     pub parent: usize,
     /// the scope that a declaration at its place is of

@@ -4,14 +4,14 @@ use nodes::kind::Kind;
 use nodes::node::Node;
 
 /// The declaration that a name means: its kind, and the type that its tag tells.
-#[derive(Clone, Copy)]
+#[derive(Clone, Copy, PartialEq, Eq, Debug)]
 pub struct Declared {
     pub kind: Kind,
     pub ty: Option<Ty>,
 }
 
 /// What a node's children are: how many, the types of the first two, and whether each that is an expression has a type.
-#[derive(Clone, Copy)]
+#[derive(Clone, Copy, PartialEq, Eq, Debug)]
 pub struct Held {
     pub count: usize,
     pub first: Option<Ty>,

@@ -2,7 +2,7 @@
 ghost use Rattle.std.specs.Prelude.{◌≡◌};
 ghost use Rattle.nodes.specs.Kinds.{number, between};
 ghost use Rattle.node_rules.specs.Scopes.{fits_32};
-ghost use Rattle.node_rules.specs.Rules.{same_kind, is, names_scalar, names_array, names_callable, names_method, names_void, declared_type, is_declaration, is_use, is_arithmetic, is_equality, is_logical, is_compound, condition, is_int_constant, has_index, of_one, of_one_number, broken_by, first_broken, call_type, sound_type, typed_unless};
+ghost use Rattle.node_rules.specs.Rules.{same_kind, is, names_scalar, names_array, names_callable, names_method, names_void, declared_type, is_declaration, is_use, operation, is_arithmetic, is_equality, is_logical, is_compound, condition, is_int_constant, has_index, of_one, of_one_number, broken_by, first_broken, call_type, sound_type, typed_unless};
 ghost use Rattle.node_rules.specs.Violations.{rules};
 
 use crate::facts::{Declared, Facts};
@@ -39,79 +39,74 @@ const RULES: [Violation; 23] = [
     Violation::TooLarge,
 ];
 
-/// Whether two kinds are one.
+/// The tag of an assignment `=`; any other reckons with the old value, as `+=`.
+const PLAIN: u8 = 0;
+
+/// What an operator does with its operands.
+#[derive(Clone, Copy, PartialEq, Eq, Debug)]
+enum Operation {
+    /// minus, and what makes a number of two
+    Arithmetic,
+    Order,
+    Equality,
+    /// not, and, or
+    Logic,
+}
+
+/// Whether two kinds are one, which `==` says too.
 pub fn is_kind(a: Kind, b: Kind) -> bool
     ensures { result ≡ same_kind a b }
 {
-    a.number() == b.number()
+    a == b
 }
 
-// What a name means: a name that is not declared counts as one that fits.
+// What a name means. Where a kind of declaration is asked for, a name that is not declared counts as one that fits.
 
 fn is_scalar(means: Option<Declared>) -> bool
     ensures { result ≡ names_scalar means }
 {
-    match means {
-        None => true,
-        Some(d) => is_kind(d.kind, Kind::ScalarDeclaration) || is_kind(d.kind, Kind::Parameter),
-    }
+    means.is_none_or(|d| matches!(d.kind, Kind::ScalarDeclaration | Kind::Parameter))
 }
 
 fn is_array(means: Option<Declared>) -> bool
     ensures { result ≡ names_array means }
 {
-    match means {
-        None => true,
-        Some(d) => is_kind(d.kind, Kind::ArrayDeclaration),
-    }
+    means.is_none_or(|d| d.kind == Kind::ArrayDeclaration)
 }
 
 fn is_callable(means: Option<Declared>) -> bool
     ensures { result ≡ names_callable means }
 {
-    match means {
-        None => true,
-        Some(d) => is_kind(d.kind, Kind::Import) || is_kind(d.kind, Kind::Method),
-    }
+    means.is_none_or(|d| matches!(d.kind, Kind::Import | Kind::Method))
 }
 
 fn is_method(means: Option<Declared>) -> bool
     ensures { result ≡ names_method means }
 {
-    match means {
-        None => false,
-        Some(d) => is_kind(d.kind, Kind::Method),
-    }
-}
-
-fn type_of_declared(means: Option<Declared>) -> Option<Ty>
-    ensures { result ≡ declared_type means }
-{
-    match means {
-        None => None,
-        Some(d) => d.ty,
-    }
+    means.is_some_and(|d| d.kind == Kind::Method)
 }
 
 fn is_void(means: Option<Declared>) -> bool
     ensures { result ≡ names_void means }
 {
-    is_method(means) && type_of_declared(means).is_none()
+    means.is_some_and(|d| d.kind == Kind::Method && d.ty.is_none())
+}
+
+fn type_of_declared(means: Option<Declared>) -> Option<Ty>
+    ensures { result ≡ declared_type means }
+{
+    means?.ty
 }
 
 // The type of a call: an import gives an int.
 fn type_of_call(means: Option<Declared>) -> Option<Ty>
     ensures { result ≡ call_type means }
 {
-    match means {
-        None => None,
-        Some(d) => {
-            if is_kind(d.kind, Kind::Import) {
-                Some(Ty::Int)
-            } else {
-                d.ty
-            }
-        }
+    let declared = means?;
+    if declared.kind == Kind::Import {
+        Some(Ty::Int)
+    } else {
+        declared.ty
     }
 }
 
@@ -119,52 +114,67 @@ fn type_of_call(means: Option<Declared>) -> Option<Ty>
 fn is_within_32_bits(value: i64) -> bool
     ensures { result ≡ fits_32 value }
 {
-    -2147483648 <= value && value <= 2147483647
+    i32::try_from(value).is_ok()
 }
 
 impl Facts {
     fn is(&self, kind: Kind) -> bool
         ensures { result ≡ is kind self.now }
     {
-        is_kind(self.node.kind, kind)
+        self.node.kind == kind
     }
 
     fn is_declaration(&self) -> bool
         ensures { result ≡ is_declaration self.now }
     {
-        let kind = self.node.kind.number();
-        2 <= kind && kind <= 6
+        self.node.kind.declares_name()
     }
 
     fn is_use(&self) -> bool
         ensures { result ≡ is_use self.now }
     {
-        let kind = self.node.kind.number();
-        self.is(Kind::For) || 17 <= kind && kind <= 18 || 22 <= kind && kind <= 23
+        self.node.kind.uses_name()
+    }
+
+    // What the operator of a unary or binary expression does; none of another node. Its tag may be any byte: one past the last
+    // operator's counts as logic.
+    fn operation(&self) -> Option<Operation>
+        ensures { result ≡ operation self.now }
+    {
+        match (self.node.kind, self.node.tag) {
+            (Kind::Unary, 0) | (Kind::Binary, 0..=4) => Some(Operation::Arithmetic),
+            (Kind::Binary, 5..=8) => Some(Operation::Order),
+            (Kind::Binary, 9..=10) => Some(Operation::Equality),
+            (Kind::Unary | Kind::Binary, _) => Some(Operation::Logic),
+            _ => None,
+        }
     }
 
     fn is_arithmetic(&self) -> bool
         ensures { result ≡ is_arithmetic self.now }
     {
-        self.is(Kind::Unary) && self.node.tag == 0 || self.is(Kind::Binary) && self.node.tag <= 8
+        matches!(
+            self.operation(),
+            Some(Operation::Arithmetic | Operation::Order)
+        )
     }
 
     fn is_equality(&self) -> bool
         ensures { result ≡ is_equality self.now }
     {
-        self.is(Kind::Binary) && 9 <= self.node.tag && self.node.tag <= 10
+        self.operation() == Some(Operation::Equality)
     }
 
     fn is_logical(&self) -> bool
         ensures { result ≡ is_logical self.now }
     {
-        self.is(Kind::Unary) && self.node.tag != 0 || self.is(Kind::Binary) && self.node.tag >= 11
+        self.operation() == Some(Operation::Logic)
     }
 
     fn is_compound(&self) -> bool
         ensures { result ≡ is_compound self.now }
     {
-        self.is(Kind::Step) || self.is(Kind::Assignment) && self.node.tag != 0
+        self.is(Kind::Step) || self.is(Kind::Assignment) && self.node.tag != PLAIN
     }
 
     // The type of the condition of an if, a for or a while.
@@ -182,23 +192,22 @@ impl Facts {
     fn has_condition(&self) -> bool
         ensures { result ≡ between 11 13 (number self.now.node.kind) }
     {
-        let kind = self.node.kind.number();
-        11 <= kind && kind <= 13
+        matches!(self.node.kind, Kind::If | Kind::For | Kind::While)
     }
 
     // Whether it is a break or a continue.
     fn leaves_loop(&self) -> bool
         ensures { result ≡ between 15 16 (number self.now.node.kind) }
     {
-        let kind = self.node.kind.number();
-        15 <= kind && kind <= 16
+        matches!(self.node.kind, Kind::Break | Kind::Continue)
     }
 
     // Whether it has a value that must be an int: a literal, or an array's length.
     fn is_int_constant(&self) -> bool
         ensures { result ≡ is_int_constant self.now }
     {
-        self.is(Kind::Literal) && self.node.tag == 1 || self.is(Kind::ArrayDeclaration)
+        self.is(Kind::Literal) && type_of_tag(self.node.tag) == Some(Ty::Int)
+            || self.is(Kind::ArrayDeclaration)
     }
 
     // Whether a for's index is an int or long scalar, and the first expression of its type.
@@ -231,9 +240,7 @@ impl Facts {
             Violation::EmptyArray => self.is(Kind::ArrayDeclaration) && self.node.value <= 0,
             Violation::Arguments => self.is(Kind::Call) && is_method(self.means) && !self.matching,
             Violation::VoidValue => {
-                self.is(Kind::Call)
-                    && is_void(self.means)
-                    && !is_kind(self.parent, Kind::CallStatement)
+                self.is(Kind::Call) && is_void(self.means) && self.parent != Kind::CallStatement
             }
             Violation::StringArgument => self.is(Kind::Text) && is_method(self.callee),
             Violation::ReturnedValue => {
@@ -259,7 +266,7 @@ impl Facts {
             }
             Violation::CastOperand => self.is(Kind::Cast) && !self.are_one_number(),
             Violation::Assigned => {
-                self.is(Kind::Assignment) && self.node.tag == 0 && !self.are_one()
+                self.is(Kind::Assignment) && self.node.tag == PLAIN && !self.are_one()
             }
             Violation::Compound => self.is_compound() && !self.are_one_number(),
             Violation::Index => self.is(Kind::For) && !self.has_index(),
@@ -269,24 +276,11 @@ impl Facts {
         }
     }
 
-    // The first of some rules that is broken.
-    fn first_of(&self, rules: &[Violation]) -> Option<Violation>
-        ensures { result ≡ first_broken rules.now self.now }
-    {
-        for k in 0..rules.len() {
-            let rule = rules[k];
-            if self.breaks(rule) {
-                return Some(rule);
-            }
-        }
-        None
-    }
-
     /// The lowest rule that is broken.
     pub fn first_broken(&self) -> Option<Violation>
         ensures { result ≡ first_broken rules self.now }
     {
-        self.first_of(&RULES)
+        RULES.iter().copied().find(|rule| self.breaks(*rule))
     }
 
     // The type of an expression that breaks no rule and holds none without a type.
@@ -296,14 +290,16 @@ impl Facts {
         let node = self.node;
         match node.kind {
             Kind::ScalarLocation | Kind::ArrayLocation => type_of_declared(self.means),
-            Kind::Literal => type_of_tag(node.tag),
-            Kind::Cast => type_of_tag(node.tag),
-            Kind::Unary if node.tag == 0 => self.held.first,
-            Kind::Unary => Some(Ty::Bool),
+            Kind::Literal | Kind::Cast => type_of_tag(node.tag),
             Kind::Call => type_of_call(self.means),
             Kind::Len => Some(Ty::Int),
-            Kind::Binary if node.tag <= 4 => self.held.first,
-            Kind::Binary => Some(Ty::Bool),
+            Kind::Unary | Kind::Binary => {
+                if self.operation() == Some(Operation::Arithmetic) {
+                    self.held.first
+                } else {
+                    Some(Ty::Bool)
+                }
+            }
             _ => None,
         }
     }

@@ -3,11 +3,11 @@ ghost use Rattle.node_rules.specs.Violations.{number_of};
 
 use finding::Numbered;
 
-/// A rule of the language that is broken, in the order of the rules; and then that the fields need too many cells.
-#[derive(Clone, Copy)]
+/// A rule of the language that is broken, in the order of the rules and with their numbers; and then that the fields need too many cells.
+#[derive(Clone, Copy, PartialEq, Eq, Debug)]
 pub enum Violation {
     /// a declaration repeats a name of its scope
-    RepeatedName,
+    RepeatedName = 21,
     /// a name is used that has no declaration in force
     Undeclared,
     /// the program has no void method main without parameters
@@ -60,31 +60,6 @@ impl Numbered for Violation {
     ghost number = { number_of };
 
     fn number_of(&self) -> u32 {
-        match self {
-            Violation::RepeatedName => 21,
-            Violation::Undeclared => 22,
-            Violation::NoMain => 23,
-            Violation::EmptyArray => 24,
-            Violation::Arguments => 25,
-            Violation::VoidValue => 26,
-            Violation::StringArgument => 27,
-            Violation::ReturnedValue => 28,
-            Violation::MissingResult => 29,
-            Violation::NotScalar => 30,
-            Violation::NotCallable => 31,
-            Violation::NotElement => 32,
-            Violation::NotArray => 33,
-            Violation::Condition => 34,
-            Violation::Arithmetic => 35,
-            Violation::Equality => 36,
-            Violation::Logic => 37,
-            Violation::CastOperand => 38,
-            Violation::Assigned => 39,
-            Violation::Compound => 40,
-            Violation::Index => 41,
-            Violation::OutsideLoop => 42,
-            Violation::TooLarge => 43,
-            Violation::TooManyCells => 44,
-        }
+        *self as u32
     }
 }

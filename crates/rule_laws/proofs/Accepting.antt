@@ -1,5 +1,6 @@
 -- Where there is no violation, no rule is broken anywhere.
-use Rattle.std.proofs.Common.{◌≡◌, ℕ, zero, suc, ◌+◌, ◌<◌, Bool, true, false, cond, ltb, List, [], ◌∷◌, length, Some, None, Option, sym, refl, ap, ◌∙◌, arith, ltb-false}
+use Rattle.std.proofs.Common.{◌≡◌, ℕ, zero, suc, ◌+◌, ◌<◌, ◌≤◌, false, List, [], ◌∷◌, length, None, Option, refl, ◌∙◌, arith}
+use Rattle.std.proofs.lemmas.Bool.Decides.{nat_tests}
 use Rattle.finding.specs.declared.Finding.{Finding}
 use Rattle.rule_laws.specs.Accepted.{AcceptedKeeps}
 use Rattle.node_rules.specs.declared.facts.Facts.{Facts}
@@ -14,14 +15,9 @@ abbrev Each : List Violation → Facts → Type 0
 Each [] f = Unit {0}
 Each (v ∷ vs) f = (broken_by v f ≡ false) × Each vs f
 
-later_none : (b : Bool) (v : Violation) (later : Option Violation) → cond b (Some v) later ≡ None → (b ≡ false) × (later ≡ None)
-later_none false v later h = (refl, h)
-later_none true v later h = let z : ◌≡◌ {A = ℕ} 0 1 = cc in absurd (omega arith)
-
 none_broken : (vs : List Violation) (f : Facts) → first_broken vs f ≡ None → Each vs f
 none_broken [] f h = tt
-none_broken (v ∷ vs) f h =
-    let p = later_none (broken_by v f) v (first_broken vs f) h in (p.0, none_broken vs f p.1)
+none_broken (v ∷ vs) f h = grind (arith, none_broken vs f)
 
 kept : (v : Violation) (f : Facts) → Each rules f → broken_by v f ≡ false
 kept RepeatedName f e = e.0
@@ -51,8 +47,7 @@ kept TooManyCells f e = refl
 
 -- node by node
 found_none : (i : ℕ) (o : Option Violation) (later : Option (Finding Violation)) → found i o later ≡ None → (o ≡ None) × (later ≡ None)
-found_none i None later h = (refl, h)
-found_none i (Some v) later h = let z : ◌≡◌ {A = ℕ} 0 1 = cc in absurd (omega arith)
+found_none i o later h = grind arith
 
 none_from : (t : Table) (i n : ℕ) → first_from t i n ≡ None → (k : ℕ) → k < n → first_broken rules (facts_at t (i + k)) ≡ None
 none_from t i zero h k l = absurd (omega arith)
@@ -63,15 +58,8 @@ none_from t i (suc n) h (suc k) l =
     let p = found_none i (first_broken rules (facts_at t i)) (first_from t (i + 1) n) h in
     let e : i + suc k ≡ (i + 1) + k = omega arith in rw e (none_from t (i + 1) n p.1 k (omega arith))
 
-cells_none : (n : ℕ) (o : Option (Finding Violation)) → or_cells n o ≡ None → (o ≡ None) × (ltb 2048 n ≡ false)
-cells_none n (Some v) h = let z : ◌≡◌ {A = ℕ} 0 1 = cc in absurd (omega arith)
-cells_none n None h = (refl, cases (ltb 2048 n) refl)
-  where
-    cases : (b : Bool) → ltb 2048 n ≡ b → b ≡ false
-    cases false e = refl
-    cases true e =
-        let g : ◌≡◌ {A = Option (Finding Violation)} (Some (record { place = 0; cause = TooManyCells })) None = sym (ap (λ b. cond b (Some (record { place = 0; cause = TooManyCells })) None) e) ∙ h in
-        let z : ◌≡◌ {A = ℕ} 0 1 = cc in absurd (omega arith)
+cells_none : (n : ℕ) (o : Option (Finding Violation)) → or_cells n o ≡ None → (o ≡ None) × (n ≤ 2048)
+cells_none n o h = grind (arith, nat_tests)
 
 pub none_broken_at : (t : Table) → first_violation t ≡ None → (i : ℕ) → i < length t.nodes → first_broken rules (facts_at t i) ≡ None
 unfolding first_violation
@@ -92,5 +80,5 @@ accepted_keeps t h =
     let p = cells_none (field_cells t.nodes) (first_from t 0 (length t.nodes)) h in
     record {
       rules_kept = λ i l v. broken_is t i v ∙ kept_at t h i l v;
-      cells_suffice = ltb-false 2048 (field_cells t.nodes) p.1;
+      cells_suffice = p.1;
     }

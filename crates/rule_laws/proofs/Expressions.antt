@@ -1,27 +1,25 @@
 -- Where there is no violation, every expression has a type, but for a call of a void method that is a statement.
-use Rattle.std.proofs.Common.{◌≡◌, ℕ, zero, suc, ◌-◌, ◌<◌, ◌≤◌, Bool, true, false, cond, not, ◌&&◌, ◌||◌, eqb, leb, ◌⊎◌, List, [], ◌∷◌, ◌++◌, map, length, is_some, Some, None, Option, sym, refl, ap, ◌∙◌, subst, inl, inr, arith, eq-eqb, eqb-true}
-use borrow.Author.Tests.{clash, not-false}
+use Rattle.std.proofs.Common.{◌≡◌, ℕ, zero, suc, ◌-◌, ◌<◌, ◌≤◌, Bool, true, false, cond, ◌||◌, eqb, leb, ◌⊎◌, List, [], ◌∷◌, ◌++◌, map, length, is_some, Some, None, Option, refl, ap, ◌∙◌, inl, inr, arith}
 use Rattle.std.proofs.ByRecursion.{All-append}
-use Rattle.std.proofs.lemmas.Bool.{cases_Bool, or_cases, or_left, or_right, and_from}
+use Rattle.std.proofs.lemmas.Bool.{cases_Bool, or_left, or_right}
 use Rattle.std.proofs.lemmas.Bool.Decides.{nat_tests}
 use Rattle.std.specs.List.{AllByRecursion as All}
-use Rattle.finding.proofs.Bools.{both}
 use Rattle.nodes.specs.Kinds.{number, between}
 use Rattle.nodes.specs.Fields.{fields}
 use Rattle.nodes.specs.Shapes.{of_class, one, shape, every, Arranged}
 use Rattle.nodes.specs.declared.kind.Kind.{Kind}
-use Rattle.nodes.specs.declared.kind.Kind.TheVariants.{Import, ScalarDeclaration, ArrayDeclaration, Method, Parameter, ScalarLocation, ArrayLocation, Literal, Unary, Cast, Call, Len, Binary}
+use Rattle.nodes.specs.declared.kind.Kind.TheVariants.{ScalarLocation, ArrayLocation, Literal, Unary, Cast, Call, Len, Binary}
 use Rattle.nodes.specs.declared.node.Node.{Node}
 use Rattle.nodes.specs.declared.shape.Class.TheVariants as class
 use Rattle.nodes.specs.declared.shape.Slot.{Slot}
 use Rattle.tree.specs.Spans.{elem}
 use Rattle.node_rules.specs.Tables.{Table, node, kind_at, end, parts}
-use Rattle.node_rules.specs.Scopes.{above, meant, is_variable}
-use Rattle.node_rules.specs.Types.{tagged, fits, has_type}
-use Rattle.node_rules.specs.Rules.{same_kind, names_scalar, names_array, names_callable, names_void, declared_type, call_type, sound_type, typed_unless, broken_by, declared, held, facts_at, type_of, first_violation}
+use Rattle.node_rules.specs.Scopes.{meant}
+use Rattle.node_rules.specs.Types.{tagged, has_type}
+use Rattle.node_rules.specs.Rules.{names_scalar, names_array, names_callable, names_void, declared_type, call_type, sound_type, typed_unless, broken_by, declared, held, facts_at, type_of, first_violation}
 use Rattle.node_rules.specs.declared.facts.Declared.{Declared}
 use Rattle.node_rules.specs.declared.types.Ty.{Ty}
-use Rattle.node_rules.specs.declared.types.Ty.TheVariants.{Int, Bool as Truth}
+use Rattle.node_rules.specs.declared.types.Ty.TheVariants.{Bool as Truth}
 use Rattle.node_rules.specs.declared.violation.Violation.{Violation}
 use Rattle.node_rules.specs.declared.violation.Violation.TheVariants.{Undeclared, VoidValue, NotScalar, NotCallable, NotElement}
 use Rattle.rule_laws.specs.Shaped.{Shaped}
@@ -34,16 +32,11 @@ use Rattle.rule_laws.proofs.Typing.{parts_all, type_is}
 -- Each in a list, by what is in it.
 each_elem : (P : ℕ → Type 0) (cs : List ℕ) → ((c : ℕ) → elem c cs ≡ true → P c) → All P cs
 each_elem P [] h = tt
-each_elem P (c ∷ cs) h =
-    (h c (or_left (eqb c c) (elem c cs) (eq-eqb c c refl)), each_elem P cs (λ x e. h x (or_right (eqb x c) (elem x cs) e)))
+each_elem P (c ∷ cs) h = (h c (grind (arith, nat_tests)), each_elem P cs (λ x e. h x (grind (arith, nat_tests))))
 
 at_elem : (P : ℕ → Type 0) (cs : List ℕ) (c : ℕ) → All P cs → elem c cs ≡ true → P c
-at_elem P [] c a h = absurd (clash h)
-at_elem P (x ∷ xs) c a h =
-    elim (or_cases (eqb c x) (elem c xs) h) [
-      | inl e ↦ subst P (sym (eqb-true c x e)) a.0
-      | inr r ↦ at_elem P xs c a.1 r
-    ]
+at_elem P [] c a h = grind arith
+at_elem P (x ∷ xs) c a h = grind (arith, nat_tests, at_elem P xs c)
 
 -- Children in slots for expressions and arguments are expressions and strings.
 abbrev Values : Slot → Type 0
@@ -51,8 +44,7 @@ Values s = (k : ℕ) → of_class s.class k ≡ true → between 17 25 k ≡ tru
 
 values_run : (s : Slot) → Values s → (run : List ℕ) → every (of_class s.class) run ≡ true → All (λ k. between 17 25 k ≡ true) run
 values_run s v [] h = tt
-values_run s v (k ∷ run) h =
-    let p = both (of_class s.class k) (every (of_class s.class) run) h in (v k p.0, values_run s v run p.1)
+values_run s v (k ∷ run) h = grind (arith, v, values_run s v run)
 
 values_arranged : (slots : List Slot) (ks : List ℕ) → All Values slots → Arranged slots ks → All (λ k. between 17 25 k ≡ true) ks
 values_arranged [] ks v a = rw a tt
@@ -71,72 +63,40 @@ among_expressions : (k : Kind) → between 17 24 (number k) ≡ true → among k
 among_expressions k h = grind (arith, nat_tests)
 
 expression_slots : (k : Kind) → between 17 24 (number k) ≡ true → All Values (shape k)
-expression_slots k h =
-    let a : Values (one class.Expression) = λ n e. grind (arith, nat_tests) in
-    let b : Values (one class.Argument) = λ n e. e in
-    one_of (λ k. All Values (shape k)) expressions
-    (tt, ((a, tt), (tt, ((a, tt), ((a, tt), ((b, (b, (b, (b, (b, (b, tt)))))), (tt, ((a, (a, tt)), tt)))))))) k (among_expressions k h)
+expression_slots k h = grind (arith, nat_tests)
 
 -- Where each child is a string or has a type, the first has one if it is an expression.
 module _ (ns : List Node) (τ : ℕ → Option Ty) where
   held_typed : (cs : List ℕ) → All (λ c. (eqb (kind_at ns c) 25 || has_type (τ c)) ≡ true) cs → (held ns τ cs).typed ≡ true
   held_typed [] a = refl
-  held_typed (c ∷ cs) a = and_from (eqb (kind_at ns c) 25 || has_type (τ c)) (held ns τ cs).typed a.0 (held_typed cs a.1)
+  held_typed (c ∷ cs) a = grind (arith, held_typed cs)
 
   first_run : (cs run later : List ℕ) → map (kind_at ns) cs ≡ run ++ later → every (of_class class.Expression) run ≡ true → length run ≡ 1 → (held ns τ cs).typed ≡ true → has_type (held ns τ cs).first ≡ true
   first_run cs [] later q e l h = absurd (omega arith)
-  first_run [] (k ∷ run) later q e l h = let z : ◌≡◌ {A = ℕ} 0 1 = cc in absurd (omega arith)
-  first_run (c ∷ cs) (k ∷ run) later q e l h =
-      let s : kind_at ns c ≡ k = cc in
-      let a = (both (between 17 24 k) (every (between 17 24) run) e).0 in
-      elim (or_cases (eqb (kind_at ns c) 25) (has_type (τ c)) (both (eqb (kind_at ns c) 25 || has_type (τ c)) (held ns τ cs).typed h).0) [
-        | inl x ↦ let y = eqb-true (kind_at ns c) 25 x in absurd (grind (arith, nat_tests))
-        | inr t ↦ t
-      ]
+  first_run [] (k ∷ run) later q e l h = grind arith
+  first_run (c ∷ cs) (k ∷ run) later q e l h = grind (arith, nat_tests)
 
   first_typed : (rest : List Slot) (cs : List ℕ) → Arranged (one class.Expression ∷ rest) (map (kind_at ns) cs) → (held ns τ cs).typed ≡ true → has_type (held ns τ cs).first ≡ true
   first_typed rest cs a h = first_run cs a.0 a.1.0 a.1.1.0 a.1.1.1.0 a.1.1.1.1.0 h
 
 -- Tags from 1 to 3 tell types, and those of variables are such.
 tagged_typed : (n : ℕ) → between 1 3 n ≡ true → has_type (tagged n) ≡ true
-tagged_typed zero h = absurd (clash h)
-tagged_typed (suc zero) h = refl
-tagged_typed (suc (suc zero)) h = refl
-tagged_typed (suc (suc (suc zero))) h = refl
-tagged_typed (suc (suc (suc (suc n)))) h = absurd (grind (arith, nat_tests))
+tagged_typed n h = grind (arith, nat_tests)
 
 abbrev Tagged : Kind → ℕ → Type 0
 Tagged k n = between (fields k).first (fields k).last n ≡ true
 
-variable_typed : (k : Kind) (n : ℕ) → is_variable (number k) ≡ true → Tagged k n → has_type (tagged n) ≡ true
-variable_typed k n h =
-    let e : among k (ScalarDeclaration ∷ ArrayDeclaration ∷ Parameter ∷ []) ≡ true = grind (arith, nat_tests) in
-    one_of (λ k. Tagged k n → has_type (tagged n) ≡ true) (ScalarDeclaration ∷ ArrayDeclaration ∷ Parameter ∷ [])
-    (tagged_typed n, (tagged_typed n, (tagged_typed n, tt))) k e
-
 -- What a name means, where it is declared as its use asks.
 module _ (ns : List Node) where
   variable_meant : (m : Option ℕ) → ((d : ℕ) → m ≡ Some d → Tagged (node ns d).kind (node ns d).tag) → is_some (declared ns m) ≡ true → (names_scalar (declared ns m) || names_array (declared ns m)) ≡ true → has_type (declared_type (declared ns m)) ≡ true
-  variable_meant None g s h = absurd (clash s)
-  variable_meant (Some d) g s h =
-      let v : is_variable (kind_at ns d) ≡ true = grind (arith, nat_tests) in
-      variable_typed (node ns d).kind (node ns d).tag v (g d refl)
+  variable_meant m g s h = grind (arith, nat_tests)
 
   callable_meant : (m : Option ℕ) → is_some (declared ns m) ≡ true → names_callable (declared ns m) ≡ true → (has_type (call_type (declared ns m)) ≡ true) ⊎ (names_void (declared ns m) ≡ true)
-  callable_meant None s h = absurd (clash s)
-  callable_meant (Some d) s h =
-      elim (or_cases (same_kind (node ns d).kind Import) (same_kind (node ns d).kind Method) h) [
-        | inl a ↦ inl (rw a refl)
-        | inr b ↦ elim (cases_Bool (has_type (tagged (node ns d).tag))) [
-          | inl e ↦ inl (elim (same_kind (node ns d).kind Import) as (λ v. has_type (cond v (Some Int) (tagged (node ns d).tag)) ≡ true) [ true ↦ refl | false ↦ e ])
-          | inr e ↦ inr (rw (b, e) refl)
-        ]
-      ]
+  callable_meant m s h = grind (arith, nat_tests)
 
 -- A type, or else another.
 either_typed : (b : Bool) (a : Option Ty) (ty : Ty) → has_type a ≡ true → has_type (cond b a (Some ty)) ≡ true
-either_typed true a ty h = h
-either_typed false a ty h = refl
+either_typed b a ty h = grind arith
 
 -- One node of an accepted table: by its kind its fields, its children or what its name means give its type.
 module _ (t : Table) (names strings : ℕ) (sh : Shaped t.nodes names strings) (none : first_violation t ≡ None) (i : ℕ) (l : i < length t.nodes) (h : (held t.nodes (type_of t) (parts t.nodes i)).typed ≡ true) where
@@ -154,27 +114,23 @@ module _ (t : Table) (names strings : ℕ) (sh : Shaped t.nodes names strings) (
 
   scalar : Sound ScalarLocation
   scalar e =
-      let a : not (is_some name_at) ≡ false = rw e at (kept_rule Undeclared) in
-      let b : not (names_scalar name_at) ≡ false = rw e at (kept_rule NotScalar) in
-      inl (variable_meant t.nodes (meant t.nodes i) meant_tagged (not-false (is_some name_at) a) (or_left (names_scalar name_at) (names_array name_at) (not-false (names_scalar name_at) b)))
+      let a = kept_rule Undeclared in
+      let b = kept_rule NotScalar in
+      inl (variable_meant t.nodes (meant t.nodes i) meant_tagged (grind arith) (grind arith))
 
   array : Sound ArrayLocation
   array e =
-      let f = fits Int (held t.nodes (type_of t) (parts t.nodes i)).first in
-      let a : not (is_some name_at) ≡ false = rw e at (kept_rule Undeclared) in
-      let b : not (names_array name_at && f) ≡ false = rw e at (kept_rule NotElement) in
-      let c = both (names_array name_at) f (not-false (names_array name_at && f) b) in
-      inl (variable_meant t.nodes (meant t.nodes i) meant_tagged (not-false (is_some name_at) a) (or_right (names_scalar name_at) (names_array name_at) c.0))
+      let a = kept_rule Undeclared in
+      let b = kept_rule NotElement in
+      inl (variable_meant t.nodes (meant t.nodes i) meant_tagged (grind arith) (grind arith))
 
   literal : Sound Literal
-  literal e = inl (tagged_typed (node t.nodes i).tag (rw e at (sh.nodes_fit i l).tag))
+  literal e =
+      let a = (sh.nodes_fit i l).tag in inl (tagged_typed (node t.nodes i).tag (grind arith))
 
   cast : Sound Cast
   cast e =
-      let n = (node t.nodes i).tag in
-      let a : between 1 2 n ≡ true = rw e at (sh.nodes_fit i l).tag in
-      let b : between 1 3 n ≡ true = grind (arith, nat_tests) in
-      inl (tagged_typed n b)
+      let a = (sh.nodes_fit i l).tag in inl (tagged_typed (node t.nodes i).tag (grind (arith, nat_tests)))
 
   unary : Sound Unary
   unary e =
@@ -188,15 +144,12 @@ module _ (t : Table) (names strings : ℕ) (sh : Shaped t.nodes names strings) (
 
   call : Sound Call
   call e =
-      let p = eqb (kind_at t.nodes (above t.nodes i)) 10 in
-      let a : not (is_some name_at) ≡ false = rw e at (kept_rule Undeclared) in
-      let b : not (names_callable name_at) ≡ false = rw e at (kept_rule NotCallable) in
-      let c : (names_void name_at && not p) ≡ false = rw e at (kept_rule VoidValue) in
-      elim (callable_meant t.nodes (meant t.nodes i) (not-false (is_some name_at) a) (not-false (names_callable name_at) b)) [
+      let a = kept_rule Undeclared in
+      let b = kept_rule NotCallable in
+      let c = kept_rule VoidValue in
+      elim (callable_meant t.nodes (meant t.nodes i) (grind arith) (grind arith)) [
         | inl x ↦ inl x
-        | inr v ↦
-            let d : not p ≡ false = rw v at c in
-            inr (record { call = ap number e; void = v; statement = eqb-true (kind_at t.nodes (above t.nodes i)) 10 (not-false p d) })
+        | inr v ↦ inr (record { call = ap number e; void = v; statement = grind (arith, nat_tests) })
       ]
 
   len : Sound Len
@@ -217,8 +170,8 @@ module _ (t : Table) (names strings : ℕ) (sh : Shaped t.nodes names strings) (
   child_typed : (i c : ℕ) → i < length t.nodes → between 17 24 (kind_at t.nodes i) ≡ true → elem c (parts t.nodes i) ≡ true → (has_type (type_of t c) ≡ true) ⊎ VoidCall t c → has_type (type_of t c) ≡ true
   child_typed i c l b m (inl x) = x
   child_typed i c l b m (inr v) =
-      let p : above t.nodes c ≡ i = sh.families.parent_of i c l m in
-      let q : kind_at t.nodes i ≡ 10 = rw p at v.statement in absurd (grind (arith, nat_tests))
+      let p = sh.families.parent_of i c l m in
+      let q = v.statement in grind (arith, nat_tests)
 
   typed_from : (m i : ℕ) → length t.nodes - i ≤ m → i < length t.nodes → between 17 24 (kind_at t.nodes i) ≡ true → (has_type (type_of t i) ≡ true) ⊎ VoidCall t i
   typed_from zero i z l b = absurd (omega arith)

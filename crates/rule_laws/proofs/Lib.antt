@@ -1,4 +1,3 @@
-pub mod Cases
 pub mod Tabling
 pub mod Accepting
 pub mod Typing

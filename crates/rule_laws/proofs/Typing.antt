@@ -1,7 +1,7 @@
 -- Types come from the children, and any fuel that reaches the last node gives the same.
-use Rattle.std.proofs.Common.{◌≡◌, ℕ, zero, suc, ◌+◌, ◌-◌, ◌<◌, ◌≤◌, Bool, true, false, cond, not, ◌&&◌, List, [], ◌∷◌, length, is_some, Some, None, Option, sym, refl, ap, ◌∙◌, inl, inr, arith, le-ltb, lt-ltb}
+use Rattle.std.proofs.Common.{◌≡◌, ℕ, zero, suc, ◌+◌, ◌-◌, ◌<◌, ◌≤◌, List, [], ◌∷◌, length, Some, None, Option, sym, refl, ap, ◌∙◌, arith}
 use Rattle.std.proofs.lemmas.List.{get_or_past}
-use Rattle.std.proofs.lemmas.Bool.{cases_lt}
+use Rattle.std.proofs.lemmas.Bool.Decides.{nat_tests}
 use Rattle.std.specs.List.{AllByRecursion as All}
 use Rattle.nodes.specs.Tree.{children, children_from}
 use Rattle.nodes.specs.declared.kind.Kind.TheVariants.{Program}
@@ -9,19 +9,14 @@ use Rattle.nodes.specs.declared.node.Node.{Node}
 use Rattle.tree.specs.Spans.{Spanned}
 use Rattle.node_rules.specs.Tables.{Table, blank, end, parts}
 use Rattle.node_rules.specs.Scopes.{meant}
-use Rattle.node_rules.specs.Violations.{rules}
-use Rattle.node_rules.specs.Rules.{first_broken, sound_type, typed, held, matches, matching, facts, facts_at, typing, type_of}
+use Rattle.node_rules.specs.Rules.{typed, held, matches, matching, facts, facts_at, typing, type_of}
 use Rattle.node_rules.specs.declared.facts.Facts.{Facts}
 use Rattle.node_rules.specs.declared.types.Ty.{Ty}
 
 -- Children lie above their parent and below its end.
 children_from_all : (P : ℕ → Type 0) (e : ℕ → ℕ) → ((j : ℕ) → j ≤ e j) → (n j stop : ℕ) → ((k : ℕ) → j ≤ k → k < stop → P k) → All P (children_from n e j stop)
 children_from_all P e up zero j stop h = tt
-children_from_all P e up (suc n) j stop h =
-    elim (cases_lt j stop) [
-      | inl lt ↦ rw (lt-ltb j stop lt) (h j (omega arith) lt, children_from_all P e up n (e j) stop (λ k l s. h k (omega (arith, up j)) s))
-      | inr le ↦ rw (le-ltb j stop le) tt
-    ]
+children_from_all P e up (suc n) j stop h = grind (arith, nat_tests, h, up, children_from_all P e up n (e j) stop)
 
 pub parts_all : (P : ℕ → Type 0) (ns : List Node) (i : ℕ) → ((k : ℕ) → i < k → k < end ns i → P k) → All P (parts ns i)
 unfolding children
@@ -31,13 +26,13 @@ parts_all P ns i h = children_from_all P (end ns) (λ j. omega arith) (end ns i 
 module _ (ns : List Node) (τ σ : ℕ → Option Ty) where
   held_same : (cs : List ℕ) → All (λ c. τ c ≡ σ c) cs → held ns τ cs ≡ held ns σ cs
   held_same [] a = refl
-  held_same (c ∷ cs) a = let h = held_same cs a.1 in rw (a.0, h) refl
+  held_same (c ∷ cs) a = grind (arith, held_same cs)
 
   matches_same : (ps cs : List ℕ) → All (λ c. τ c ≡ σ c) cs → matches ns τ ps cs ≡ matches ns σ ps cs
   matches_same [] [] a = refl
   matches_same [] (c ∷ cs) a = refl
   matches_same (p ∷ ps) [] a = refl
-  matches_same (p ∷ ps) (c ∷ cs) a = let h = matches_same ps cs a.1 in rw (a.0, h) refl
+  matches_same (p ∷ ps) (c ∷ cs) a = grind (arith, matches_same ps cs)
 
   matching_same : (cs : List ℕ) (m : Option ℕ) → All (λ c. τ c ≡ σ c) cs → matching ns τ cs m ≡ matching ns σ cs m
   matching_same cs None a = refl
@@ -56,14 +51,8 @@ facts_same_below t sp τ σ i l h =
     facts_of_parts t τ σ i (parts_all (λ c. τ c ≡ σ c) t.nodes i (λ k a b. h k a (omega (arith, sp.within i l))))
 
 -- Past the last node there is no type.
-either_none : (b : Bool) → ◌≡◌ {A = Option Ty} (cond b None None) None
-either_none true = refl
-either_none false = refl
-
 typed_program : (f : Facts) → f.node.kind ≡ Program → typed f ≡ None
-typed_program f e =
-    let b = not (is_some (first_broken rules f)) && f.held.typed in
-    ap (λ k. cond b (sound_type k f) None) e ∙ either_none b
+typed_program f e = grind arith
 
 past_type : (n : ℕ) (t : Table) (i : ℕ) → length t.nodes ≤ i → typing n t i ≡ None
 past_type zero t i h = refl

@@ -1,10 +1,11 @@
 -- The table of a file without a fault has the file's nodes, names and strings.
-use Rattle.std.proofs.Common.{◌≡◌, ℕ, zero, suc, ◌+◌, ◌*◌, ◌/◌, ◌%◌, ◌<◌, ◌≤◌, true, cond, ◌&&◌, eqb, ltb, leb, List, [], ◌∷◌, map, length, get_or, None, unwrap_or, sym, refl, ap, ◌∙◌, subst, inl, inr, arith, length-append, eqb-true}
+use Rattle.std.proofs.Common.{◌≡◌, ℕ, zero, suc, ◌+◌, ◌*◌, ◌/◌, ◌%◌, ◌<◌, ◌≤◌, true, cond, eqb, ltb, List, [], ◌∷◌, map, length, get_or, None, unwrap_or, sym, refl, ap, ◌∙◌, subst, inl, inr, arith}
 use mathlib.Core.Path.{fun_ext}
 use borrow.Author.Tests.{not-false}
 use Rattle.std.proofs.lemmas.List.{get_or_past, get_or_push, get_or_append_left, length-map}
+use Rattle.std.proofs.lemmas.Grind.{common_steps}
+use Rattle.std.proofs.lemmas.Bool.Decides.{nat_tests}
 use Rattle.std.proofs.lemmas.Bool.{cases_lt}
-use Rattle.finding.proofs.Bools.{both}
 use Rattle.nodes.specs.Bytes.{le16}
 use Rattle.nodes.specs.Kinds.{number, between}
 use Rattle.nodes.specs.Fields.{fields, value_fits}
@@ -26,7 +27,7 @@ use Rattle.rules.specs.Shaped.{FittingNode, Shaped, TablesShaped}
 
 tabulate_length : {X : Type 0} (f : ℕ → X) (n : ℕ) → length (tabulate f n) ≡ n
 tabulate_length f zero = refl
-tabulate_length f (suc n) = length-append (tabulate f n) (f n ∷ []) ∙ omega (arith, tabulate_length f n)
+tabulate_length f (suc n) = grind (arith, common_steps, tabulate_length f n)
 
 tabulate_at : {X : Type 0} (f : ℕ → X) (n i : ℕ) (d : X) → i < n → get_or (tabulate f n) i d ≡ f i
 tabulate_at f zero i d l = absurd (omega arith)
@@ -38,10 +39,7 @@ tabulate_at f (suc n) i d l =
 
 -- the nodes are whole records
 counted_whole : (file : List ℕ) → counted (contents file) ≡ true → (part file 4).length % 16 ≡ 0
-counted_whole file h =
-    let n = (part file 4).length in
-    let a = both (leb 1 n) (leb n 16384 && eqb (n % 16) 0) h in
-    let b = both (leb n 16384) (eqb (n % 16) 0) a.1 in eqb-true (n % 16) 0 b.1
+counted_whole file h = grind (arith, nat_tests)
 
 body_whole : (file : List ℕ) → first_fault file ≡ None → length (node_body file) % 16 ≡ 0
 unfolding first_fault
@@ -52,10 +50,7 @@ body_whole file h =
 
 -- past the last node there is no size
 past_end : (body : List ℕ) (i : ℕ) → length body % 16 ≡ 0 → length body / 16 ≤ i → le16 body (16 * i + 4) ≡ 0
-past_end body i whole l =
-    let a : get_or body (16 * i + 4) 0 ≡ 0 = get_or_past body (16 * i + 4) 0 (omega arith) in
-    let b : get_or body (16 * i + 4 + 1) 0 ≡ 0 = get_or_past body (16 * i + 4 + 1) 0 (omega arith) in
-    rw (a, b) refl
+past_end body i whole l = grind (arith, common_steps)
 
 module _ (file : List ℕ) (none : first_fault file ≡ None) where
   sound : WellFormed file

@@ -2,7 +2,7 @@
 use Rattle.std.specs.Prelude.{◌≡◌, ℕ, ◌<◌, ◌≤◌, false, length, None}
 use Rattle.rules.specs.Tables.{Table}
 use Rattle.rules.specs.Rules.{broken, field_cells, first_violation}
-use Rattle.rules.specs.declared.violation.Violation.{Violation}
+use Rattle.node_rules.specs.declared.violation.Violation.{Violation}
 
 pub record Kept (t : Table) : Type 0 where
   pub rules_kept : (i : ℕ) → i < length t.nodes → (v : Violation) → broken t i v ≡ false

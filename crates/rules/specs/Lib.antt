@@ -1,4 +1,3 @@
-pub mod Violations
 pub mod Tables
 pub mod Scopes
 pub mod Types

@@ -11,11 +11,11 @@ use Rattle.nodes.specs.Tree.{parent, children}
 use Rattle.rules.specs.Tables.{Table, node, kind_at, end, any}
 use Rattle.rules.specs.Scopes.{meant, repeated, in_loop, method_of}
 use Rattle.rules.specs.Types.{tagged, fits, all_fit, of_one_type, of_one_number_type, fit_each, has_type}
-use Rattle.rules.specs.Violations.{rules}
-use Rattle.rules.specs.declared.types.Ty.{Ty}
-use Rattle.rules.specs.declared.types.Ty.TheVariants.{Int, Bool as Truth}
-use Rattle.rules.specs.declared.violation.Violation.{Violation}
-use Rattle.rules.specs.declared.violation.Violation.TheVariants.{RepeatedName, Undeclared, NoMain, EmptyArray, Arguments, VoidValue, StringArgument, ReturnedValue, MissingResult, NotScalar, NotCallable, NotElement, NotArray, Condition, Arithmetic, Equality, Logic, CastOperand, Assigned, Compound, Index, OutsideLoop, TooLarge, TooManyCells}
+use Rattle.node_rules.specs.Violations.{rules}
+use Rattle.node_rules.specs.declared.types.Ty.{Ty}
+use Rattle.node_rules.specs.declared.types.Ty.TheVariants.{Int, Bool as Truth}
+use Rattle.node_rules.specs.declared.violation.Violation.{Violation}
+use Rattle.node_rules.specs.declared.violation.Violation.TheVariants.{RepeatedName, Undeclared, NoMain, EmptyArray, Arguments, VoidValue, StringArgument, ReturnedValue, MissingResult, NotScalar, NotCallable, NotElement, NotArray, Condition, Arithmetic, Equality, Logic, CastOperand, Assigned, Compound, Index, OutsideLoop, TooLarge, TooManyCells}
 
 -- What a name means: nothing that is declared, or a declaration of this kind and type, with the types of its parameters.
 pub record Meaning : Type 0 where

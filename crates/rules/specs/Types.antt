@@ -3,8 +3,8 @@
 -- An expression that breaks a rule, or holds an expression without a type, has none; nor has a string. A missing type counts
 -- as one that fits: a rule is broken only if no types in place of the missing ones would keep it.
 use Rattle.std.specs.Prelude.{ℕ, Bool, true, false, cond, ◌&&◌, ◌||◌, List, [], ◌∷◌, Some, None, Option, ◌==◌}
-use Rattle.rules.specs.declared.types.Ty.{Ty}
-use Rattle.rules.specs.declared.types.Ty.TheVariants.{Int, Long, Bool as Truth}
+use Rattle.node_rules.specs.declared.types.Ty.{Ty}
+use Rattle.node_rules.specs.declared.types.Ty.TheVariants.{Int, Long, Bool as Truth}
 
 -- The type that a tag tells: 1 int, 2 long, 3 bool.
 abbrev pub tagged : ℕ → Option Ty

@@ -3,8 +3,8 @@ use Rattle.std.specs.Prelude.{◌≡◌, ℕ, ◌+◌, ◌/◌, ◌%◌, List, [
 use Rattle.finding.specs.declared.Finding.{Finding}
 use Rattle.rules.specs.Rules.{first_violation}
 use Rattle.rules.specs.Tables.{table_of}
-use Rattle.rules.specs.declared.violation.Violation.{Violation}
-use Rattle.rules.specs.declared.violation.Violation.TheVariants.{RepeatedName, Undeclared, NoMain, EmptyArray, Arguments, VoidValue, ReturnedValue, MissingResult, NotScalar, NotCallable, Condition, Arithmetic, Assigned, Compound, OutsideLoop, TooManyCells}
+use Rattle.node_rules.specs.declared.violation.Violation.{Violation}
+use Rattle.node_rules.specs.declared.violation.Violation.TheVariants.{RepeatedName, Undeclared, NoMain, EmptyArray, Arguments, VoidValue, ReturnedValue, MissingResult, NotScalar, NotCallable, Condition, Arithmetic, Assigned, Compound, OutsideLoop, TooManyCells}
 
 -- a number below 65,536 in four bytes
 abbrev pub four : ℕ → List ℕ

@@ -2,10 +2,10 @@
 //
 // There is no checker here yet: these are the definitions that it will be held to. Proved: what they say of the worked cases, by
 // computation from the bytes of small rule files; that the table of every file without a fault is shaped as its kinds ask; and that
-// where there is no violation every rule is kept at every node.
+// where there is no violation every rule is kept at every node. The types of the language and the violations are those of `node_rules`.
 #![tactic(auto)]
 
+pub use node_rules::{types, violation};
+
 pub mod laws;
-pub mod types;
-pub mod violation;
 pub mod worked;
