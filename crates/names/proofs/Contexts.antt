@@ -1,5 +1,5 @@
 -- A node's context, by its parent's.
-use Rattle.std.proofs.Common.{◌≡◌, ℕ, ◌+◌, ◌<◌, ◌≤◌, Bool, false, cond, ◌||◌, eqb, ◌≢◌, List, length, get_or, set, None, sym, refl, ap, ◌∙◌, inl, inr, arith}
+use Rattle.std.proofs.Common.{◌≡◌, ℕ, ◌+◌, ◌<◌, ◌≤◌, Bool, false, cond, ◌||◌, eqb, ◌≢◌, List, length, get_or, set, Option, None, sym, refl, ap, ◌∙◌, inl, inr, arith}
 use Rattle.std.proofs.lemmas.Bool.Decides.{nat_tests}
 use Rattle.std.proofs.lemmas.List.{get_or-set_same, get_or-set_other}
 use Rattle.std.proofs.lemmas.Bool.{cases_lt}
@@ -7,10 +7,10 @@ use Rattle.nodes.specs.Kinds.{between}
 use Rattle.nodes.specs.Tree.{parent, ancestors}
 use Rattle.nodes.specs.declared.node.Node.{Node}
 use Rattle.node_rules.specs.Tables.{node, kind_at, end, any}
-use Rattle.node_rules.specs.Scopes.{above, declares, uses, scope, in_force, chosen, node_of, first_method, in_loop, method_of, meant, place, context, is_variable, cells_in}
+use Rattle.node_rules.specs.Scopes.{above, declares, uses, scope, scope_in, in_force, chosen, node_of, first_method, in_loop, method_of, meant, place, context, is_variable, cells_in}
 use Rattle.node_rules.specs.declared.context.Context.{Context}
 use Rattle.node_rules.specs.declared.binding.Binding.{Binding}
-use Rattle.names.specs.Walk.{Nested, Child, Known, Ready, inherited, vacant}
+use Rattle.names.specs.Walk.{Nested, Child, Known, inherited, vacant}
 use Rattle.names.proofs.Nesting.{parent_child, holder_le}
 
 pub context_below : (ns : List Node) → Nested ns → (i : ℕ) → 0 < i → i < length ns → context ns i ≡ inherited (kind_at ns (above ns i)) (context ns (above ns i)) (above ns i) (scope ns i) (meant ns i) (place ns i)
@@ -24,6 +24,18 @@ context_below ns s i z l =
       means = meant ns i;
       place = place ns i;
     }) (s.spans.upward i z l)
+
+-- a child's context, by what is known of its parent
+pub context_child : (ns : List Node) → Nested ns → (i p : ℕ) → i < length ns → Child (end ns) p i → (outer : Context) (means : Option ℕ) (cell : ℕ) → outer ≡ context ns p → means ≡ meant ns i → cell ≡ place ns i → inherited (kind_at ns p) outer p (scope_in ns p outer.parent) means cell ≡ context ns i
+unfolding scope context
+context_child ns n i p l c outer means cell o m z =
+    let low = c.lower in
+    let q : p ≡ above ns i = sym (parent_child (end ns) p i c) in
+    ap (λ x. inherited (kind_at ns p) x p (scope_in ns p x.parent) means cell) o
+    ∙ ap (λ x. inherited (kind_at ns x) (context ns x) x (scope_in ns x (above ns x)) means cell) q
+    ∙ ap (λ x. inherited (kind_at ns (above ns i)) (context ns (above ns i)) (above ns i) (scope ns i) x cell) m
+    ∙ ap (inherited (kind_at ns (above ns i)) (context ns (above ns i)) (above ns i) (scope ns i) (meant ns i)) z
+    ∙ sym (context_below ns n i (omega arith) l)
 
 -- one context more is known
 pub known_more : (ns : List Node) (cs : List Context) (i : ℕ) → Known ns cs i → i < length cs → Known ns (set cs i (context ns i)) (i + 1)
@@ -69,10 +81,6 @@ unfolding place
 no_place ns i d =
     let v : is_variable (kind_at ns i) ≡ false = grind (arith, nat_tests) in
     sym (ap (λ x. cond x (cells_in (eqb (above ns i) 0) (in_force ns i)) 0) v)
-
--- what a writer of contexts asks for, at a child
-pub standing : (ns : List Node) (bs : List Binding) (cs : List Context) (used i p : ℕ) → Ready ns bs cs used i → Child (end ns) p i → Nested ns × ((0 < i) × ((i < length ns) × (p ≡ above ns i)))
-standing ns bs cs used i p r c = (r.nested, (let l = c.lower in omega arith, (r.inside, sym (parent_child (end ns) p i c))))
 
 -- which nodes have a name, by the kind's number
 pub statement_named : (k : ℕ) → between 2 6 k ≡ false → k ≤ 16 → (between 2 6 k || (eqb k 12 || (between 17 18 k || between 22 23 k))) ≡ eqb k 12

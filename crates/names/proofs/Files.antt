@@ -1,5 +1,5 @@
 -- The nodes of a file without a fault nest, and are those that were decoded.
-use Rattle.std.proofs.Common.{◌≡◌, ℕ, ◌-◌, List, length, take, None, sym, ap, ◌∙◌, arith}
+use Rattle.std.proofs.Common.{◌≡◌, ℕ, List, length, take, None, sym, ap, ◌∙◌}
 use Rattle.layout.specs.Head.{node_body}
 use Rattle.nodes.specs.Nodes.{count}
 use Rattle.nodes.specs.declared.node.Node.{Node}
@@ -16,9 +16,6 @@ nested_file file h =
 module _ (file over : List ℕ) (n : ℕ) (nodes : List Node) (o : over ≡ file) (c : n ≡ count (node_body over)) (d : take (count (node_body over)) nodes ≡ nodes_of over) where
   pub decoded_file : take n nodes ≡ nodes_of file
   decoded_file = ap (λ k. take k nodes) c ∙ d ∙ ap nodes_of o
-
-  pub decoded_front : take (n - 0) nodes ≡ nodes_of file
-  decoded_front = let q : n - 0 ≡ n = omega arith in ap (λ k. take k nodes) q ∙ decoded_file
 
   pub counted_file : first_fault file ≡ None → n ≡ length (nodes_of file)
   counted_file h = c ∙ ap (λ f. count (node_body f)) o ∙ sym (table_long file h)

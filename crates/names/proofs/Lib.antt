@@ -1,3 +1,5 @@
+pub mod Kinship
+pub mod Made
 pub mod Nesting
 pub mod Contexts
 pub mod Walking

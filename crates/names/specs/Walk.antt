@@ -1,6 +1,7 @@
--- What the walk over the names promises: inner contracts, over the definitions of scopes.
-use Rattle.std.specs.Prelude.{◌≡◌, ℕ, ◌+◌, ◌<◌, ◌≤◌, false, cond, ◌||◌, List, [], ◌∷◌, ◌++◌, length, take, None, Option, ◌==◌, slice_index_or}
+-- Nodes within nodes, and what the walk over the names promises: inner contracts, over the definitions of scopes.
+use Rattle.std.specs.Prelude.{◌≡◌, ℕ, ◌+◌, ◌-◌, ◌<◌, ◌≤◌, false, cond, ◌||◌, List, [], ◌∷◌, ◌++◌, length, take, None, Option, ◌==◌, slice_index_or}
 use Rattle.nodes.specs.Kinds.{between}
+use Rattle.nodes.specs.Tree.{children_from}
 use Rattle.nodes.specs.declared.node.Node.{Node}
 use Rattle.tree.specs.Spans.{Spanned}
 use Rattle.node_rules.specs.Tables.{kind_at, end}
@@ -14,6 +15,10 @@ pub record Nested (ns : List Node) : Type 0 where
   pub few : length ns ≤ 1024
   pub program : kind_at ns 0 ≡ 1
   pub spans : Spanned (end ns) (length ns)
+
+-- The children from j on, of a node that ends at stop.
+unfoldable pub kin : List Node → ℕ → ℕ → List ℕ
+kin ns j stop = children_from (stop - j) (end ns) j stop
 
 -- Node i spans j, and no node between them does: j is a child of i.
 pub record Child (e : ℕ → ℕ) (i j : ℕ) : Type 0 where
@@ -46,8 +51,6 @@ own ns i = cond (declares ns i) (binding ns i ∷ []) []
 
 -- The walk stands before node i: the bindings in use are the names in force there.
 pub record Ready (ns : List Node) (bindings : List Binding) (contexts : List Context) (used i : ℕ) : Type 0 where
-  pub nested : Nested ns
-  pub inside : i < length ns
   pub room : (length bindings ≡ 1024) × (length contexts ≡ 1024)
   pub fits : used ≤ i
   pub names : take used bindings ≡ in_force ns i
@@ -55,8 +58,6 @@ pub record Ready (ns : List Node) (bindings : List Binding) (contexts : List Con
 
 -- Node i is entered: it is known, and its own name is in force.
 pub record Entered (ns : List Node) (bindings : List Binding) (contexts : List Context) (used i : ℕ) : Type 0 where
-  pub nested : Nested ns
-  pub inside : i < length ns
   pub room : (length bindings ≡ 1024) × (length contexts ≡ 1024)
   pub fits : used ≤ i + 1
   pub names : i + 1 < end ns i → take used bindings ≡ in_force ns (i + 1)

@@ -6,9 +6,10 @@ ghost use Rattle.nodes.specs.Nodes.{count};
 ghost use Rattle.node_rules.specs.Tables.{nodes_of};
 
 use crate::MOST_NODES;
+use crate::nested::BLANK;
 use layout::reader::Reader;
-use nodes::kind::Kind;
 use nodes::node::Node;
+use std::array;
 
 /// The nodes of a file, each decoded once.
 pub(crate) fn decode_nodes(reader: &Reader) -> [Node; MOST_NODES]
@@ -16,16 +17,5 @@ pub(crate) fn decode_nodes(reader: &Reader) -> [Node; MOST_NODES]
     ensures nodes { take (count (node_body (file_of reader.now))) result ≡ nodes_of (file_of reader.now) }
     ensures long { length result ≡ 1024 }
 {
-    let blank = Node {
-        kind: Kind::Program,
-        tag: 0,
-        name: 0,
-        size: 0,
-        value: 0,
-    };
-    let mut nodes = [blank; MOST_NODES];
-    for i in 0..reader.node_count() {
-        nodes[i] = reader.node(i).unwrap_or(blank);
-    }
-    nodes
+    array::from_fn(|i| reader.node(i).unwrap_or(BLANK))
 }

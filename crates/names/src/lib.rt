@@ -16,6 +16,7 @@ use decode::decode_nodes;
 use finding::Finding;
 use layout::fault::FileFault;
 use layout::reader::Reader;
+use nested::Nodes;
 use node_rules::context::Context;
 use nodes::node::Node;
 use rule_file::examine;
@@ -23,6 +24,7 @@ use walk::find_contexts;
 
 mod decode;
 mod lookup;
+pub mod nested;
 mod place;
 mod walk;
 
@@ -46,7 +48,9 @@ fn tell_names<'f>(reader: Reader<'f>) -> Resolved<'f>
 {
     let count = reader.node_count();
     let nodes = decode_nodes(&reader);
-    let contexts = find_contexts(&nodes[0..count]);
+    let contexts = find_contexts(Nodes {
+        list: &nodes[..count],
+    });
     Resolved {
         reader,
         count,

@@ -1,9 +1,8 @@
-// The names in force: what a name means, and the cells that are taken.
-ghost use Rattle.std.specs.Prelude.{◌≡◌, ◌≤◌, not, ◌||◌, take, if◌then◌else◌, None, ◌==◌};
+// What a name means among the names in force, and the cells that these take.
+ghost use Rattle.std.specs.Prelude.{◌≡◌, ◌≤◌, not, ◌||◌, length, None, ◌==◌};
 ghost use Rattle.node_rules.specs.Scopes.{inner, chosen, node_of, cells_in};
 
 use node_rules::binding::Binding;
-use stack::read;
 
 // Of two bindings of a name, the one of the inner scope; of one scope the first that was met.
 fn innermost(best: Option<Binding>, binding: Binding) -> Option<Binding>
@@ -15,64 +14,39 @@ fn innermost(best: Option<Binding>, binding: Binding) -> Option<Binding>
     }
 }
 
-// The cells that count, of a binding of this scope.
-fn counted(all: bool, scope: usize, cells: u32) -> u32
-    ensures { result ≡ (if all || not (scope == 0) then cells else 0) }
+// The binding that a name means.
+fn chosen(in_force: &[Binding], name: u8) -> Option<Binding>
+    ensures { result ≡ chosen name None in_force.now }
 {
-    if all || scope != 0 { cells } else { 0 }
+    in_force
+        .iter()
+        .copied()
+        .filter(|binding| binding.name == name)
+        .fold(None, innermost)
 }
 
-// The declaration that a name means.
-fn meaning(bindings: &[Binding], used: usize, name: u8) -> Option<usize>
-    ensures { result ≡ node_of (chosen name None (take used bindings.now)) }
+/// The declaration that a name means.
+pub(crate) fn meaning(in_force: &[Binding], name: u8) -> Option<usize>
+    ensures { result ≡ node_of (chosen name None in_force.now) }
 {
-    let mut best: Option<Binding> = None;
-    let mut k = 0;
-    while let Some(binding) = read(bindings, used, k) {
-        if binding.name == name {
-            best = innermost(best, *binding);
-        }
-        k += 1;
-    }
-    match best {
-        Some(binding) => Some(binding.node),
-        None => None,
-    }
+    Some(chosen(in_force, name)?.node)
 }
 
-/// The declaration that a name means, for a node that has one.
-pub(crate) fn meaning_if(named: bool, bindings: &[Binding], used: usize, name: u8) -> Option<usize>
-    ensures { result ≡ (if named then node_of (chosen name None (take used bindings.now)) else None) }
+// Whether a binding's cells count: those of all variables, or of those that are no fields.
+fn counts(binding: &Binding, all: bool) -> bool
+    ensures { result ≡ (all || not (binding.now.scope == 0)) }
 {
-    if named {
-        meaning(bindings, used, name)
-    } else {
-        None
-    }
+    all || binding.scope != 0
 }
 
-/// The place of the next cell, for a node that has cells.
-pub(crate) fn place_if(variable: bool, bindings: &[Binding], used: usize, all: bool) -> u64
-    requires { used ≤ 1024 }
-    ensures { result ≡ (if variable then cells_in all (take used bindings.now) else 0) }
+/// The cells of the variables in force: of all of them, or of those that are no fields.
+pub(crate) fn cells_in_force(in_force: &[Binding], all: bool) -> u64
+    requires { length in_force.now ≤ 1024 }
+    ensures { result ≡ cells_in all in_force.now }
 {
-    if variable {
-        cells_in_force(bindings, used, all)
-    } else {
-        0
-    }
-}
-
-// The cells of the variables in force: of all of them, or of those that are no fields.
-fn cells_in_force(bindings: &[Binding], used: usize, all: bool) -> u64
-    requires { used ≤ 1024 }
-    ensures { result ≡ cells_in all (take used bindings.now) }
-{
-    let mut cells: u64 = 0;
-    let mut k = 0;
-    while let Some(binding) = read(bindings, used, k) {
-        cells += counted(all, binding.scope, binding.cells) as u64;
-        k += 1;
-    }
-    cells
+    in_force
+        .iter()
+        .filter(|binding| counts(binding, all))
+        .map(|binding| binding.cells as u64)
+        .sum()
 }
