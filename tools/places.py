@@ -123,7 +123,7 @@ NUMBERED = r"\b(kind|number\(\)|tag)\b[^=<>!\n]{0,3}(==|!=|<=|>=|<|>) *\d|\d+ *<
 
 
 def own_options():
-    yield from lines_with(r"^\s+(Nothing|Empty|Refused|Made|IllTyped)\b")
+    yield from lines_with(r"^\s+(Nothing|Empty|Made|IllTyped)\b|^\s+Refused\(")
     yield from heads_with(lambda f: re.fullmatch(r"(io::Result<)?bool>?( \{)?", f.result) and acts(f))
     yield from heads_with(lambda f: "Option<Finding<" in f.result or f.result.startswith("io::Result<Option<&'static str>"))
     yield from bodies_with(NUMBERED)
@@ -176,11 +176,12 @@ def index_loops():
 
 
 def by_hand():
-    same = lambda f: len(f.parameters) == 2 and len({p.split(":", 1)[-1] for p in f.parameters}) == 1 and f.result.startswith("bool")
-    yield from heads_with(same)
+    yield from bodies_with(r"^\s*(\w+(\.\w+\(\))? == \w+(\.\w+\(\))?|equal\(a, b\))\s*$")
     yield from bodies_with(r"\d+ => (Some|Ok)\(")
     yield from bodies_with(r"match \(?\w+[\w, ]*\)? \{\n\s*(\w+::\w+|_?\(?\w*,? ?\w*::?\w*.*) => (true|false),")
-    yield from heads_with(lambda f: f.name.startswith("print_") or f.name in ("column_name", "number", "number_of"))
+    yield from bodies_with(r"\b(None|Err\(_\)) => (true|false|None|0),|Some\(\w+\) => Some\(")
+    yield from bodies_with(r"(\w+::\w+(\(_\))? => \d+,\n\s*){2}|(\d+ => \"\",\n\s*){3}|(?<!\*)\bself as u\d")
+    yield from heads_with(lambda f: f.code.count("println!") > 2)
     yield from lines_with(r"derive\(Clone, Copy\)")
 
 
@@ -209,7 +210,7 @@ def travelling():
 
 
 def buffers():
-    yield from lines_with(r"(: |mut \w+ = |mut \w+: )\[[^\]]+; \w+\]")
+    yield from lines_with(r"^(?!const)(.*: |.*mut \w+ = |.*mut \w+: )\[[^\]]+; \w+\]")
     yield from lines_with(r"^\s*(pub )?(used|count|last|left): (usize|u16|u32),|used: &mut usize")
 
 
