@@ -29,7 +29,8 @@ pub fn is_identifier(text: &[u8]) -> bool
 pub fn is_string_text(text: &[u8]) -> bool
     ensures { result ≡ all string_byte text.now }
 {
-    text.iter().all(|b| matches!(b, 32..=126 | 9..=10 | 12..=13))
+    text.iter()
+        .all(|b| matches!(b, 32..=126 | 9..=10 | 12..=13))
 }
 
 /// Whether two rows of bytes are the same.
