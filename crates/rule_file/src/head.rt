@@ -1,8 +1,8 @@
 // The head of a file: its size, its edition, its contents.
 ghost use Rattle.std.specs.Prelude.{◌≡◌, not, length};
-ghost use Rattle.finding.specs.Checks.{passes_unless};
-ghost use Rattle.finding.specs.Search.{lowest};
-ghost use Rattle.layout.specs.Faults.{place_of, first_among, head_causes};
+ghost use Rattle.finding.specs.Checks.{found, passes_unless};
+ghost use Rattle.finding.specs.Search.{passing};
+ghost use Rattle.layout.specs.Faults.{first_among, head_causes};
 ghost use Rattle.layout.specs.Head.{sized, edition_one, contiguous, counted};
 ghost use Rattle.layout.specs.Readers.{file_of};
 
@@ -39,22 +39,22 @@ fn is_counted(c: Contents) -> bool
     (1..=16_384).contains(&c.nodes.length) && c.nodes.length % 16 == 0
 }
 
-// The place of a fault of the file as a whole, unless the file is as it should be.
-#[tactic(auto, unfolding(finding::specs::Search::lowest))]
-fn unless(good: bool) -> Option<u32>
-    ensures { result ≡ lowest (λ _. not good) 1 }
+// A check of the file as a whole.
+fn whole(cause: FileFault, good: bool) -> Result<(), Finding<FileFault>>
+    ensures { result ≡ passes_unless (found cause (passing (not good) 0)) }
 {
-    (!good).then_some(0)
+    Finding::absent(cause, (!good).then_some(0))
 }
 
 /// Checks the head; it fails with its first fault, which is of the file as a whole.
+#[tactic(auto, unfolding(finding::specs::Search::lowest))]
 pub(crate) fn check(reader: &Reader) -> Result<(), Finding<FileFault>>
     ensures { result ≡ passes_unless (first_among head_causes (file_of reader.now)) }
 {
     let file = reader.file();
     let contents = reader.contents();
-    Finding::absent(FileFault::FileSize, unless(is_sized(file)))?;
-    Finding::absent(FileFault::Edition, unless(is_edition_one(file)))?;
-    Finding::absent(FileFault::BodyOrder, unless(is_contiguous(file.len(), contents)))?;
-    Finding::absent(FileFault::NodeCount, unless(is_counted(contents)))
+    whole(FileFault::FileSize, is_sized(file))?;
+    whole(FileFault::Edition, is_edition_one(file))?;
+    whole(FileFault::BodyOrder, is_contiguous(file.len(), contents))?;
+    whole(FileFault::NodeCount, is_counted(contents))
 }

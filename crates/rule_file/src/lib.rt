@@ -23,7 +23,7 @@ fn judge(reader: &Reader) -> Result<(), Finding<FileFault>>
 {
     head::check(reader)?;
     texts::faults::check(reader)?;
-    tree::faults::first_fault(reader).map_or(Ok(()), Err)
+    tree::faults::check(reader)
 }
 
 /// Examines a file: a reader over it, or its first fault.

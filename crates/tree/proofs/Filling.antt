@@ -1,71 +1,48 @@
 -- Children that fill slots: one slot at a time, and one child at a time.
-use Rattle.std.proofs.Common.{◌≡◌, ℕ, zero, suc, ◌+◌, ◌-◌, ◌<◌, ◌≤◌, true, false, cond, List, [], ◌∷◌, map, length, get_or, drop, Some, None, refl, ap, ◌∙◌, arith, le-ltb, lt-ltb}
-use Rattle.std.proofs.lemmas.List.{at_drop_more, at_drop_all}
-use Rattle.nodes.specs.Kinds.{kind_of}
+use Rattle.std.proofs.Common.{Bor, ◌≡◌, ℕ, Bool, false, List, [], ◌∷◌, map, Some, None, Ok, Option, Result, sym, refl, ap, ◌∙◌}
+use Rattle.std.specs.Iterator.{Yields, YieldsFirst}
+use Rattle.std.specs.Option.{MatchOption}
+use Rattle.std.specs.List.{FoldsTo}
+use Rattle.nodes.specs.Kinds.{kind_of, named}
 use Rattle.layout.specs.Faults.{end_of, kind_byte, children_fit}
-use Rattle.nodes.specs.Tree.{children, children_from}
+use Rattle.nodes.specs.Tree.{children}
 use Rattle.nodes.specs.declared.kind.Kind.{Kind}
-use Rattle.nodes.specs.Shapes.{shape, of_class, again, asks, filled, satisfied, fill}
+use Rattle.nodes.specs.declared.kind.UnknownKind.{UnknownKind}
+use Rattle.nodes.specs.Shapes.{shape, filled, satisfied, fill}
 use Rattle.nodes.specs.declared.shape.Slot.{Slot}
 
-pub filled_none : (xs : List Slot) (k : ℕ) → length xs ≡ 0 → filled xs k ≡ None
-filled_none [] k h = refl
-filled_none (s ∷ xs) k h = absurd (omega arith)
-
-module _ (xs : List Slot) (k : ℕ) (d : Slot) (some : 0 < length xs) where
-  filled_first : filled xs k ≡ cond (of_class (get_or xs 0 d).class k) (Some (cond (again (get_or xs 0 d).times) xs (drop 1 xs))) (cond (asks (get_or xs 0 d).times) None (filled (drop 1 xs) k))
-  filled_first = first xs some
-    where
-      first : (ys : List Slot) → 0 < length ys → filled ys k ≡ cond (of_class (get_or ys 0 d).class k) (Some (cond (again (get_or ys 0 d).times) ys (drop 1 ys))) (cond (asks (get_or ys 0 d).times) None (filled (drop 1 ys) k))
-      first [] l = absurd (omega arith)
-      first (s ∷ ys) l = refl
-
-  pub filled_again : of_class (get_or xs 0 d).class k ≡ true → again (get_or xs 0 d).times ≡ true → filled xs k ≡ Some xs
-  filled_again a b = filled_first ∙ rw (a, b) refl
-
-  pub filled_once : of_class (get_or xs 0 d).class k ≡ true → again (get_or xs 0 d).times ≡ false → filled xs k ≡ Some (drop 1 xs)
-  filled_once a b = filled_first ∙ rw (a, b) refl
-
-  pub filled_asking : of_class (get_or xs 0 d).class k ≡ false → asks (get_or xs 0 d).times ≡ true → filled xs k ≡ None
-  filled_asking a b = filled_first ∙ rw (a, b) refl
-
-  pub filled_passed : of_class (get_or xs 0 d).class k ≡ false → asks (get_or xs 0 d).times ≡ false → filled xs k ≡ filled (drop 1 xs) k
-  filled_passed a b = filled_first ∙ rw (a, b) refl
-
-pub satisfied_asking : (xs : List Slot) (i : ℕ) (d : Slot) → i < length xs → asks (get_or xs i d).times ≡ true → satisfied (drop i xs) ≡ false
-satisfied_asking xs i d l h = at_drop_more satisfied xs i d l ∙ rw h refl
-
-pub satisfied_passed : (xs : List Slot) (i : ℕ) (d : Slot) → i < length xs → asks (get_or xs i d).times ≡ false → satisfied (drop i xs) ≡ satisfied (drop (i + 1) xs)
-satisfied_passed xs i d l h = at_drop_more satisfied xs i d l ∙ rw h refl
-
-pub satisfied_all : (xs : List Slot) (i : ℕ) → length xs ≤ i → satisfied (drop i xs) ≡ true
-satisfied_all xs i l = at_drop_all satisfied xs i l
-
--- one child after another, from a child on
-module _ (e kind : ℕ → ℕ) (stop : ℕ) where
-  pub fill_more : (slots rest : List Slot) (child counter : ℕ) → counter < stop → child < stop → filled slots (kind child) ≡ Some rest → fill (Some slots) (map kind (children_from (stop - counter) e child stop)) ≡ fill (Some rest) (map kind (children_from (stop - (counter + 1)) e (e child) stop))
-  fill_more slots rest child counter a b h =
-      let p : stop - counter ≡ suc (stop - (counter + 1)) = omega arith in rw (p, lt-ltb child stop b) (ap (λ s. fill s (map kind (children_from (stop - (counter + 1)) e (e child) stop))) h)
-
-  pub fill_stuck : (slots : List Slot) (child counter : ℕ) → counter < stop → child < stop → filled slots (kind child) ≡ None → fill (Some slots) (map kind (children_from (stop - counter) e child stop)) ≡ false
-  fill_stuck slots child counter a b h =
-      let p : stop - counter ≡ suc (stop - (counter + 1)) = omega arith in
-      rw (p, lt-ltb child stop b) (ap (λ s. fill s (map kind (children_from (stop - (counter + 1)) e (e child) stop))) h)
-
-  fill_done : (slots : List Slot) (n child : ℕ) → stop ≤ child → fill (Some slots) (map kind (children_from n e child stop)) ≡ satisfied slots
-  fill_done slots zero child l = refl
-  fill_done slots (suc n) child l = rw (le-ltb child stop l) refl
-
-  pub fill_end : (slots : List Slot) (child counter : ℕ) → stop ≤ child → fill (Some slots) (map kind (children_from (stop - counter) e child stop)) ≡ satisfied slots
-  fill_end slots child counter l = fill_done slots (stop - counter) child l
-
-  pub fill_all : (slots : List Slot) (child counter : ℕ) → stop ≤ counter → fill (Some slots) (map kind (children_from (stop - counter) e child stop)) ≡ satisfied slots
-  fill_all slots child counter l = let p : stop - counter ≡ 0 = omega arith in rw p refl
-
-pub fit_start : (nodes : List ℕ) (i : ℕ) (kind : Kind) (slots : List Slot) (stop : ℕ) → kind_of (kind_byte nodes i) ≡ Some kind → slots ≡ shape kind → stop ≡ end_of nodes i → fill (Some slots) (map (kind_byte nodes) (children_from (stop - (i + 1)) (end_of nodes) (i + 1) stop)) ≡ children_fit nodes i
-unfolding children_fit children
-fit_start nodes i kind slots stop h s e = rw (h, s, e) refl
+pub fit_start : (nodes : List ℕ) (i : ℕ) (kind : Kind) (slots : List Slot) (ks : List ℕ) → kind_of (kind_byte nodes i) ≡ Some kind → slots ≡ shape kind → ks ≡ map (kind_byte nodes) (children (end_of nodes) i) → fill (Some slots) ks ≡ children_fit nodes i
+unfolding children_fit
+fit_start nodes i kind slots ks h s e = rw (h, s, e) refl
 
 pub fit_unknown : (nodes : List ℕ) (i : ℕ) → kind_of (kind_byte nodes i) ≡ None → children_fit nodes i ≡ false
 unfolding children_fit
 fit_unknown nodes i h = rw h refl
+
+pub known : (n : ℕ) (kind : Kind) (o : Option Kind) → Ok kind ≡ named n o → o ≡ Some kind
+known n kind (Some k) h = cc
+known n kind None h = cc
+
+pub unknown : (n : ℕ) (o : Option Kind) (r : Result Kind UnknownKind) → ((kind : Kind) → r ≡ Ok kind → ⊥) → r ≡ named n o → o ≡ None
+unknown n (Some k) r h e = absurd (h k e)
+unknown n None r h e = refl
+
+-- A chain that fills slots with the numbers that are left of a row, and asks then whether they are satisfied.
+module _ {S F : Type 0} (rest : S → List ℕ) (turn : F × Bor (List Slot) → ℕ → F × Bor (List Slot) → Type 0) (turns : (p : F × Bor (List Slot)) (k : ℕ) (q : F × Bor (List Slot)) → turn p k q → filled p.1.now k ≡ Some q.1.now) where
+  filled_on : (ks : List ℕ) (s t : S) (p q : F × Bor (List Slot)) → Yields (YieldsFirst rest) s ks t → FoldsTo turn p ks q → fill (Some p.1.now) (rest s) ≡ fill (Some q.1.now) (rest t)
+  filled_on [] s t p q y f = cc
+  filled_on (k ∷ ks) s t p q y f =
+      let e = turns p k f.0 f.1 in
+      let g : rest s ≡ k ∷ rest y.0 = y.1 in
+      ap (fill (Some p.1.now)) g ∙ ap (λ o. fill o (rest y.0)) e ∙ filled_on ks y.0 t f.0 q y.2 f.2
+
+  last_filled : (p : Bor (List Slot)) (t u : S) (o : Option ℕ) (r : Option (Bor (List Slot))) (b : Bool) (Stop : ℕ → Type 0) (Post : Bor (List Slot) → Type 0) → ((k : ℕ) → Stop k → (filled p.now k ≡ None) × (r ≡ None)) → ((x : Bor (List Slot)) → Post x → b ≡ satisfied x.now) → YieldsFirst rest t o u → MatchOption o (r ≡ Some p) Stop → MatchOption r (b ≡ false) Post → fill (Some p.now) (rest t) ≡ b
+  last_filled p t u None r b Stop Post stops posts y m n = ap (fill (Some p.now)) y.0 ∙ sym (posts p (rw m at n))
+  last_filled p t u (Some k) r b Stop Post stops posts y m n =
+      let e = stops k m in
+      let f : b ≡ false = rw e.1 at n in
+      ap (fill (Some p.now)) y ∙ ap (λ o. fill o (rest u)) e.0 ∙ sym f
+
+  pub filled_by : (ks : List ℕ) (s t u : S) (p q : F × Bor (List Slot)) (o : Option ℕ) (r : Option (Bor (List Slot))) (b : Bool) (Stop : ℕ → Type 0) (Post : Bor (List Slot) → Type 0) → ((k : ℕ) → Stop k → (filled q.1.now k ≡ None) × (r ≡ None)) → ((x : Bor (List Slot)) → Post x → b ≡ satisfied x.now) → Yields (YieldsFirst rest) s ks t → YieldsFirst rest t o u → FoldsTo turn p ks q → MatchOption o (r ≡ Some q.1) Stop → MatchOption r (b ≡ false) Post → b ≡ fill (Some p.1.now) (rest s)
+  filled_by ks s t u p q o r b Stop Post stops posts y z f m n =
+      sym (filled_on ks s t p q y f ∙ last_filled q.1 t u o r b Stop Post stops posts z m n)

@@ -3,3 +3,5 @@ pub mod Filling
 pub mod Families
 pub mod Arranging
 pub mod Completing
+pub mod Walking
+pub mod Searching

@@ -1,5 +1,5 @@
 -- Ancestors: the parent, and the parent's ancestors.
-use Rattle.std.proofs.Common.{◌≡◌, ℕ, zero, suc, ◌+◌, ◌-◌, ◌<◌, ◌≤◌, true, false, cond, ◌||◌, eqb, ltb, leb, ◌≢◌, List, [], ◌∷◌, length, get_or, set, None, sym, refl, ap, ◌∙◌, inl, inr, add-one, arith, get_or-set_other, get_or-set_same, ltb-false, le-ltb, lt-ltb, eq-eqb, ne_eqb, eqb-true, leb-false}
+use Rattle.std.proofs.Common.{◌≡◌, ℕ, zero, suc, ◌+◌, ◌<◌, ◌≤◌, true, false, cond, ◌||◌, eqb, ltb, leb, [], ◌∷◌, length, None, sym, refl, ap, ◌∙◌, ◌⊎◌, inl, inr, add-one, arith, ltb-false, le-ltb, lt-ltb, eq-eqb, ne_eqb, eqb-true, leb-false}
 use borrow.Author.Tests.{eqb-false, not-false}
 use Rattle.std.proofs.lemmas.Bool.{cases_lt}
 use Rattle.nodes.specs.Tree.{holder, parent, around, ancestors, depth, bad_size, too_deep}
@@ -7,18 +7,10 @@ use Rattle.finding.specs.Search.{lowest}
 use Rattle.finding.proofs.Bools.{neither}
 use Rattle.finding.proofs.Lowest.{none_lowest}
 use Rattle.tree.specs.Spans.{Spanned, Shallow}
-use Rattle.tree.specs.Stack.{held, Sound, Stacked}
 
--- the stack
-pub held_set : (xs : List ℕ) (n j v : ℕ) → n ≤ j → held (set xs j v) n ≡ held xs n
-held_set xs zero j v l = refl
-held_set xs (suc n) j v l =
-    let ne : n ≢ j = omega arith in
-    rw (get_or-set_other xs j n v 0 ne) (ap (λ ys. get_or xs n 0 ∷ ys) (held_set xs n j v (omega arith)))
-
-length_held : (xs : List ℕ) (n : ℕ) → length (held xs n) ≡ n
-length_held xs zero = refl
-length_held xs (suc n) = ap suc (length_held xs n)
+-- No size below i is at fault.
+abbrev pub Sound : (ℕ → ℕ) → ℕ → ℕ → Type 0
+Sound e n i = (k : ℕ) → k < i → bad_size e n k ≡ false
 
 -- the highest that spans, and no node between
 pub record Holds (e : ℕ → ℕ) (i n p : ℕ) : Type 0 where
@@ -58,6 +50,58 @@ parent_holds e i l s = holder_holds e i i l s
 pub parent_at : (e : ℕ → ℕ) (i p : ℕ) → Holds e i i p → parent e i ≡ p
 unfolding parent
 parent_at e i p h = holder_at e i i p h
+
+-- No node between a parent and its child spans the child, and the highest lower node of which that is so is the parent, where it spans the
+-- child or is node 0.
+holder_past : (e : ℕ → ℕ) (i n k : ℕ) → holder e i n < k → k < n → e k ≤ i
+holder_past e i zero k a b = absurd (omega arith)
+holder_past e i (suc n) k a b =
+    elim (cases_lt i (e n)) [
+      | inl lt ↦ let h = rw (lt-ltb i (e n) lt) at a in absurd (omega arith)
+      | inr le ↦
+          let h = rw (le-ltb i (e n) le) at a in
+          elim (cases_lt k n) [ inl x ↦ holder_past e i n k h x | inr y ↦ let q : k ≡ n = omega arith in rw q le ]
+    ]
+
+holder_none : (e : ℕ → ℕ) (i n : ℕ) → ((k : ℕ) → 0 < k → k < n → e k ≤ i) → holder e i n ≡ 0
+holder_none e i zero h = refl
+holder_none e i (suc n) h =
+    let below = holder_none e i n (λ k a b. h k a (omega arith)) in
+    elim (cases_lt 0 n) [
+      | inl lt ↦ rw (le-ltb i (e n) (h n lt (omega arith))) below
+      | inr le ↦ let q : n ≡ 0 = omega arith in elim (cases_lt i (e n)) [ inl x ↦ rw (lt-ltb i (e n) x) q | inr y ↦ rw (le-ltb i (e n) y) below ]
+    ]
+
+pub past_up : (e : ℕ → ℕ) (next p q : ℕ) → q ≡ parent e p → p < next → e p ≤ next → ((k : ℕ) → p < k → k < next → e k ≤ next) → (k : ℕ) → q < k → k < next → e k ≤ next
+unfolding parent
+past_up e next p q is l s past k a b =
+    elim (cases_lt k p) [
+      | inl lt ↦ let h = holder_past e p p k (omega arith) lt in omega arith
+      | inr le ↦ elim (cases_lt p k) [ inl gt ↦ past k gt b | inr ge ↦ let r : k ≡ p = omega arith in rw r s ]
+    ]
+
+holder_lower : (e : ℕ → ℕ) (i n : ℕ) → 0 < n → holder e i n < n
+holder_lower e i zero l = absurd (omega arith)
+holder_lower e i (suc n) l =
+    elim (cases_lt i (e n)) [
+      | inl lt ↦ rw (lt-ltb i (e n) lt) (omega arith)
+      | inr le ↦ rw (le-ltb i (e n) le) (elim (cases_lt 0 n) [
+        | inl x ↦ let h = holder_lower e i n x in omega arith
+        | inr y ↦ let q : n ≡ 0 = omega arith in rw q (omega arith)
+      ])
+    ]
+
+pub parent_lower : (e : ℕ → ℕ) (i : ℕ) → 0 < i → parent e i < i
+unfolding parent
+parent_lower e i l = holder_lower e i i l
+
+parent_none : (e : ℕ → ℕ) (i : ℕ) → ((k : ℕ) → 0 < k → k < i → e k ≤ i) → parent e i ≡ 0
+unfolding parent
+parent_none e i h = holder_none e i i h
+
+pub parent_is : (e : ℕ → ℕ) (i p : ℕ) → p < i → ((k : ℕ) → p < k → k < i → e k ≤ i) → (p ≡ 0) ⊎ (i < e p) → parent e i ≡ p
+parent_is e i p l past (inr s) = parent_at e i p (record { lower = l; spans = s; past = past })
+parent_is e i p l past (inl z) = parent_none e i (λ k a b. past k (omega arith) b) ∙ sym z
 
 -- what no fault says of one node
 sound_root : (e : ℕ → ℕ) (n : ℕ) → bad_size e n 0 ≡ false → e 0 ≡ n
@@ -148,89 +192,13 @@ pub depth_is : (e : ℕ → ℕ) (i : ℕ) → i < e i → depth e i ≡ suc (le
 unfolding depth ancestors
 depth_is e i s = rw (lt-ltb i (e i) s) refl
 
--- The stack while it is closed for i: what stands above the last place does not span i.
-pub record Closing (e : ℕ → ℕ) (i : ℕ) (xs : List ℕ) (top : ℕ) : Type 0 where
-  pub node : get_or xs top 0 < i
-  pub below : held xs top ≡ ancestors e (get_or xs top 0)
-  pub past : (k : ℕ) → get_or xs top 0 < k → k < i → e k ≤ i
-
-pub closing_start : (e : ℕ → ℕ) (i : ℕ) (xs : List ℕ) (last : ℕ) → 0 < i → Stacked e xs last (i - 1) → Closing e i xs last
-closing_start e i xs last l s =
-    record {
-      node = omega (arith, s.top);
-      below = s.below ∙ ap (ancestors e) (sym s.top);
-      past = λ k a b. absurd (omega (arith, s.top));
-    }
-
--- the stack below a place, where it is a parent and its ancestors
-popped : (e : ℕ → ℕ) (xs : List ℕ) (top q : ℕ) → held xs top ≡ q ∷ ancestors e q → (0 < top) × (get_or xs (top - 1) 0 ≡ q) × (held xs (top - 1) ≡ ancestors e q)
-popped e xs zero q h = let z : ◌≡◌ {A = ℕ} 0 1 = cc in absurd (omega arith)
-popped e xs (suc t) q h =
-    let r : suc t - 1 ≡ t = omega arith in
-    let a : get_or xs t 0 ≡ q = cc in
-    let b : held xs t ≡ ancestors e q = cc in
-    (omega arith, rw r a, rw r b)
-
-closing_up : (e : ℕ → ℕ) (i : ℕ) (xs : List ℕ) (t p q : ℕ) → get_or xs t 0 ≡ q → held xs t ≡ ancestors e q → Holds e p p q → p < i → e p ≤ i → ((k : ℕ) → p < k → k < i → e k ≤ i) → Closing e i xs t
-closing_up e i xs t p q a b h l s past =
-    record {
-      node = omega (arith, h.lower);
-      below = b ∙ ap (ancestors e) (sym a);
-      past = λ k x y. elim (cases_lt k p) [
-        | inl lt ↦ (let z = h.past k (omega arith) lt in omega arith)
-        | inr le ↦ elim (cases_lt p k) [ inl gt ↦ past k gt y | inr ge ↦ let r : k ≡ p = omega arith in rw r s ]
-      ];
-    }
-
-pub closing_pop : (e : ℕ → ℕ) (n i : ℕ) (xs : List ℕ) (top : ℕ) → e 0 ≡ n → i < n → Sound e n i → Closing e i xs top → e (get_or xs top 0) ≤ i → (0 < top) × Closing e i xs (top - 1)
-closing_pop e n i xs top w l s c h =
-    let p = get_or xs top 0 in
-    let pi : p < i = c.node in
-    let z : 0 < p = (elim (cases_lt 0 p) [ inl x ↦ x | inr y ↦ let q : p ≡ 0 = omega arith in absurd (let g = rw q at h in omega arith) ]) in
-    let ho = parent_holds e p z (omega arith) in
-    let lo = ho.lower in
-    let a = ancestors_at e p (parent e p) ho (λ k x y. nested_below e n i s (omega arith) w k (parent e p) (omega arith) x y) in
-    let d = popped e xs top (parent e p) (c.below ∙ a) in
-    (d.0, closing_up e i xs (top - 1) p (parent e p) d.1 d.2 ho pi h c.past)
-
-pub closing_done : (e : ℕ → ℕ) (n i : ℕ) (xs : List ℕ) (top : ℕ) → e 0 ≡ n → i < n → Sound e n i → Closing e i xs top → i < e (get_or xs top 0) → Stacked e xs top (parent e i) × (held xs (top + 1) ≡ ancestors e i)
-closing_done e n i xs top w l s c h =
-    let pi : get_or xs top 0 < i = c.node in
-    let ho : Holds e i i (get_or xs top 0) = record { lower = c.node; spans = h; past = c.past } in
-    let q = parent_at e i (get_or xs top 0) ho in
-    let a = ancestors_at e i (get_or xs top 0) ho (λ k x y. nested_below e n i s (omega arith) w k (get_or xs top 0) pi x y) in (
-      record { top = sym q; below = c.below ∙ ap (ancestors e) (sym q) },
-      ap (held xs) (add-one top) ∙ ap (λ ys. get_or xs top 0 ∷ ys) c.below ∙ sym a,
-    )
-
--- a push
-pub pushed : (e : ℕ → ℕ) (i : ℕ) (xs : List ℕ) (top : ℕ) → top + 1 < length xs → held xs (top + 1) ≡ ancestors e i → Stacked e (set xs (top + 1) i) (top + 1) ((i + 1) - 1)
-pushed e i xs top l h =
-    let q : (i + 1) - 1 ≡ i = omega arith in
-    rw q (record { top = get_or-set_same xs (top + 1) i 0 l; below = held_set xs (top + 1) (top + 1) i (omega arith) ∙ h })
-
-pub stacked_first : (e : ℕ → ℕ) (xs : List ℕ) → get_or xs 0 0 ≡ 0 → Stacked e xs 0 (1 - 1)
-stacked_first e xs h = record { top = h; below = sym (ancestors_root e) }
-
-pub sound_more : (e : ℕ → ℕ) (n i : ℕ) → Sound e n i → bad_size e n i ≡ false → Sound e n (i + 1)
-sound_more e n i s h k l =
-    elim (cases_lt k i) [ inl lt ↦ s k lt | inr le ↦ let q : k ≡ i = omega arith in rw q h ]
-
-pub depth_held : (e : ℕ → ℕ) (i : ℕ) (xs : List ℕ) (top : ℕ) → i < e i → held xs (top + 1) ≡ ancestors e i → depth e i ≡ top + 2
-depth_held e i xs top s h =
-    depth_is e i s ∙ ap suc (ap length (sym h) ∙ length_held xs (top + 1)) ∙ omega arith
-
 pub depth_root : (e : ℕ → ℕ) → 0 < e 0 → too_deep e 0 ≡ false
 unfolding too_deep
 depth_root e s = rw (depth_is e 0 s ∙ ap (λ xs. suc (length xs)) (ancestors_root e)) refl
 
-pub deep : (e : ℕ → ℕ) (i d : ℕ) → depth e i ≡ d → d ≡ 65 → too_deep e i ≡ true
+pub told_deep : (e : ℕ → ℕ) (i : ℕ) → eqb (depth e i) 65 ≡ too_deep e i
 unfolding too_deep
-deep e i d h q = eq-eqb (depth e i) 65 (h ∙ q)
-
-pub not_deep : (e : ℕ → ℕ) (i d : ℕ) → depth e i ≡ d → (d ≡ 65 → ⊥) → too_deep e i ≡ false
-unfolding too_deep
-not_deep e i d h q = ne_eqb (depth e i) 65 (λ g. q (sym h ∙ g))
+told_deep e i = refl
 
 -- what is so of every node where no size is at fault
 up_child : (e : ℕ → ℕ) (n i : ℕ) → e 0 ≡ n → Sound e n n → 0 < i → i < n → ancestors e i ≡ parent e i ∷ ancestors e (parent e i)

@@ -1,3 +1,4 @@
 pub mod Spans
-pub mod Stack
+pub mod Walk
 pub mod Runs
+pub mod Children

@@ -5,3 +5,7 @@ mod children;
 pub mod faults;
 pub mod laws;
 mod sizes;
+mod walk;
+
+/// The most nodes that a file has.
+const MOST_NODES: usize = 1024;

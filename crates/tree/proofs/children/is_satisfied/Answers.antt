@@ -1,14 +1,12 @@
-use Rattle.std.proofs.Common.{sym, ◌∙◌}
-use Rattle.tree.proofs.Filling.{satisfied_asking, satisfied_passed, satisfied_all}
+use Rattle.std.proofs.Common.{not, sym, ◌∙◌, ◌&&◌, refl, rules, tests}
+use Rattle.std.specs.List.{list_all}
+use Rattle.std.proofs.lemmas.Iterator.{YieldsList-from_slice}
+use Rattle.std.proofs.lemmas.Iterator.Search.{all_from_yields_List}
+use Rattle.std.proofs.lemmas.List.Recursion.{same_from_clauses}
+use Rattle.nodes.specs.Shapes.{asks, satisfied}
 use Rattle.tree.proofs.children.is_satisfied.Goals as goal
 
-pub returns-then-is_asking : goal.returns-then-is_asking
-returns-then-is_asking c =
-    sym (sym c.loop-slot.invariant ∙ satisfied_asking _ c.loop-slot.slot-index _ c.loop-slot-test.true (sym c.if-is_asking.ensures))
-
-pub loop-slot-preserved : goal.loop-slot-preserved
-loop-slot-preserved c =
-    sym (satisfied_passed _ c.loop-slot.slot-index _ c.loop-slot-test.true (sym c.if-is_asking.ensures)) ∙ c.loop-slot.invariant
-
 pub returns : goal.returns
-returns c = sym (sym c.loop-slot.invariant ∙ satisfied_all c.args.slots.now c.loop-slot.slot-index c.loop-slot-test.false)
+returns c =
+    all_from_yields_List (λ s. not (asks s.times)) _ _ _ c.all.ensures.ran (YieldsList-from_slice c.args.slots.now cc) (λ x b q k. search (rules, tests))
+    ∙ sym (same_from_clauses satisfied (list_all (λ s. not (asks s.times))) (λ s b. not (asks s.times) && b) refl (λ _ _. refl) (λ _ _. refl) c.args.slots.now)

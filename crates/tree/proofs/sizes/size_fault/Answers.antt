@@ -1,38 +1,25 @@
-use Rattle.std.proofs.Common.{◌≡◌, sym, refl, ◌∙◌, arith, length-set}
-use Rattle.finding.proofs.Lowest.{lowest_at, lowest_none}
+use Rattle.std.proofs.Common.{◌≡◌, nat_le, nat_lt, Bool, ◌||◌, rules, tests, true, false, sym, ◌∙◌, arith}
+use Rattle.std.proofs.lemmas.Iterator.{first_from_find}
+use Rattle.std.proofs.lemmas.Iterator.Consumers.{YieldsList-from_first}
+use Rattle.finding.proofs.Lowest.{lowest_at}
 use Rattle.layout.specs.Faults.{end_of}
 use Rattle.nodes.specs.Tree.{bad_size}
-use Rattle.tree.proofs.Nesting.{fault_root, fine_root, fault_later, sound_more, stacked_first, pushed}
+use Rattle.tree.specs.Walk.{ahead}
+use Rattle.std.specs.Option.{option_map}
+use Rattle.tree.specs.declared.walk.Met.{Met}
+use Rattle.tree.proofs.Nesting.{fault_root, fine_root, fault_later}
+use Rattle.tree.proofs.Walking.{lowest_met}
 use Rattle.tree.proofs.sizes.size_fault.Goals as goal
-use Rattle.tree.proofs.sizes.size_fault.Goals.{After-is_out}
 
--- what the test of node i says of its size
-told : (c : After-is_out) → bad_size (end_of c.args.nodes.now) c.args.n c.loop-i.i ≡ c.is_out.result
-told c =
-    let t = c.close-last.ensures.stacked.top in
-    let g = fault_later (end_of c.args.nodes.now) c.args.n c.loop-i.i (omega arith) in cc
-
-pub returns-then-end-n : goal.returns-then-end-n
-returns-then-end-n c =
+pub returns-then-end_of-n : goal.returns-then-end_of-n
+returns-then-end_of-n c =
     sym (lowest_at (bad_size _ _) _ 0 (omega arith) (λ k l. absurd (omega arith)) (fault_root (end_of c.args.nodes.now) c.args.n (λ q. omega arith)))
 
-pub loop-i-init : goal.loop-i-init
-loop-i-init c =
-    (omega arith, refl, (λ k l. let q : k ≡ 0 = omega arith in rw q (fine_root _ _ (omega arith))), stacked_first _ _ refl)
-
-pub returns-then-is_out : goal.returns-then-is_out
-returns-then-is_out c =
-    let f = told (goal.at.returns-then-is_out c).After-is_out ∙ c.if-is_out.true in
-    sym (lowest_at (bad_size _ _) _ c.loop-i.i (omega arith) c.loop-i.invariant.2 f)
-
-pub loop-i-preserved : goal.loop-i-preserved
-loop-i-preserved c =
-    let f = told (goal.at.loop-i-preserved c).After-is_out ∙ c.if-is_out.false in (
-      omega arith,
-      simp length-set c.loop-i.invariant.1,
-      sound_more _ _ _ c.loop-i.invariant.2 f,
-      pushed (end_of c.args.nodes.now) c.loop-i.i c.loop-i.stack c.close-last.result (omega arith) c.close-last.ensures.exact,
-    )
-
 pub returns : goal.returns
-returns c = sym (lowest_none (bad_size _ _) _ (λ k l. c.loop-i.invariant.2 k (omega arith)))
+returns c =
+    let e = end_of c.args.nodes.now in
+    let n = c.args.n in
+    let test : Met → Bool = λ m. nat_le m.stop m.node || nat_lt m.limit m.stop in
+    let m : c.map.result ≡ option_map (λ m. m.node) c.find.result = search rules in
+    let f = first_from_find c.find.new.self _ c.find.result (λ m. test m ≡ true) (λ m. test m ≡ false) c.find.ensures.ran (YieldsList-from_first (λ x. x) ahead _ c.over.ensures) (λ x q k. search (rules, tests)) (λ x q k. search (rules, tests)) in
+    m ∙ lowest_met e n test (bad_size e n) (omega arith) (fine_root e n (omega arith)) (λ i l b. sym (fault_later e n i l)) c.find.result f

@@ -1,0 +1,111 @@
+// A walk over the nodes, with a stack of the nodes around.
+ghost use Rattle.std.specs.Prelude.{◌≡◌, ℕ, ◌+◌, ◌-◌, ◌<◌, ◌≤◌, ◌||◌, map, nat_le, nat_lt, slice_index};
+ghost use Rattle.std.specs.Iterator.{YieldsFirst, item_count};
+ghost use Rattle.std.specs.List.{range_with_len};
+ghost use Rattle.layout.specs.Faults.{end_of};
+ghost use Rattle.nodes.specs.Tree.{parent};
+
+use crate::MOST_NODES;
+use layout::outline::end_of;
+
+/// A node on the walk: where it ends, where its parent ends, and how deep it lies where no size is at fault.
+#[derive(Clone, Copy)]
+pub(crate) struct Met {
+    pub(crate) node: u32,
+    stop: usize,
+    limit: usize,
+    pub(crate) depth: usize,
+}
+
+impl Met {
+    /// Whether the node spans nothing, or reaches past its parent's end.
+    pub(crate) fn is_out(&self) -> bool
+        ensures { result ≡ (nat_le self.now.stop self.now.node || nat_lt self.now.limit self.now.stop) }
+    {
+        self.stop <= self.node as usize || self.limit < self.stop
+    }
+}
+
+/// A walk over the nodes after node 0, in their order. Node 0 is at the bottom of the stack, and above each node is one that has it
+/// for its parent. No node above the top one and below the next spans the next.
+#[derive(Drop)]
+pub(crate) struct Walk<'a> {
+    nodes: &'a [u8],
+    count: u32,
+    next: u32,
+    stack: [u16; MOST_NODES],
+    top: usize,
+    ghost few: { count ≤ 1024 },
+    ghost within: { next ≤ count },
+    ghost room: { top < next },
+    ghost bottom: { slice_index stack 0 ≡ 0 },
+    ghost rising: { (k : ℕ) → k < top → slice_index stack k < slice_index stack (k + 1) },
+    ghost upward: { (k : ℕ) → k < top → slice_index stack k ≡ parent (end_of nodes.now) (slice_index stack (k + 1)) },
+    ghost lower: { slice_index stack top < next },
+    ghost past: { (k : ℕ) → slice_index stack top < k → k < next → end_of nodes.now k ≤ next },
+}
+
+impl<'a> Walk<'a> {
+    ghost use Rattle.tree.specs.Walk.{ahead, met_at};
+
+    /// A walk over so many nodes.
+    pub(crate) fn over(nodes: &'a [u8], count: u32) -> Walk<'a>
+        requires { (0 < count) × (count ≤ 1024) }
+        ensures { ahead result ≡ map (met_at (end_of nodes.now)) (range_with_len 1 (count - 1)) }
+    {
+        Walk {
+            nodes,
+            count,
+            next: 1,
+            stack: [0; MOST_NODES],
+            top: 0,
+        }
+    }
+
+    // Where the node on top ends.
+    fn top_end(&self) -> usize
+        ensures { result ≡ end_of self.now.nodes.now (slice_index self.now.stack self.now.top) }
+    {
+        end_of(self.nodes, u32::from(self.stack[self.top]))
+    }
+
+    // Leaves the nodes that do not span the next one. The top one is then its parent.
+    fn close(&mut self)
+        ensures parent { slice_index self.new.stack self.new.top ≡ parent (end_of self.new.nodes.now) self.new.next }
+        ensures nodes { self.new.nodes ≡ self.old.nodes }
+        ensures next { self.new.next ≡ self.old.next }
+        ensures count { self.new.count ≡ self.old.count }
+    {
+        while self.top > 0 && self.top_end() <= self.next as usize {
+            self.top -= 1;
+        }
+    }
+}
+
+impl Iterator for Walk<'_> {
+    type Item = Met;
+
+    ghost use Rattle.tree.specs.Walk.{ahead};
+
+    ghost next_gives = { YieldsFirst ahead };
+
+    ghost remaining = { item_count ahead };
+
+    fn next(&mut self) -> Option<Met> {
+        if self.next == self.count {
+            return None;
+        }
+        self.close();
+        let node = self.next;
+        let limit = self.top_end();
+        self.top += 1;
+        self.stack[self.top] = node as u16;
+        self.next += 1;
+        Some(Met {
+            node,
+            stop: end_of(self.nodes, node),
+            limit,
+            depth: self.top + 1,
+        })
+    }
+}
