@@ -18,6 +18,7 @@ pub struct Items<'a> {
 
 impl<'a> Items<'a> {
     /// The items of a body, from the first on.
+    #[tactic(auto, unfolding(crate::specs::Items::split))]
     pub(crate) fn of(body: &'a [u8]) -> Items<'a>
         ensures { pending result ≡ split body.now }
     {
@@ -35,6 +36,7 @@ impl<'a> Items<'a> {
     }
 
     /// How many items are to come.
+    #[tactic(auto, using(crate::proofs::Splitting::items_few))]
     pub fn count(self) -> u32
         ensures { result ≡ length (pending self.entry) }
     {
@@ -63,6 +65,7 @@ impl<'a> Iterator for Items<'a> {
 
     ghost remaining = { item_count pending };
 
+    #[tactic(auto, using(crate::proofs::Splitting::items_end, crate::proofs::Splitting::items_next))]
     fn next(&mut self) -> Option<&'a [u8]> {
         if self.left == 0 || self.rest.is_empty() {
             return None;
