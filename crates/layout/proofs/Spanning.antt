@@ -41,10 +41,10 @@ yields_up =
     (λ s x t h. range_next s.start t.start (range_inclusive_left gap s) (range_inclusive_left gap t) x t.exhausted h.1.1 h.1.0 h.1.2 (λ q. rw q refl))
 
 -- `0..=n`, from the front
-pub yields_through : (s : RangeInclusive ℕ) (n : ℕ) → range_inclusive_start s ≡ 0 → range_inclusive_end s ≡ n → range_inclusive_exhausted s ≡ false → YieldsList (range_inclusive_steps gap Follows) (λ x. x) s (range_with_len 0 (suc n))
+pub yields_through : (s : RangeInclusive ℕ) (n : ℕ) → range_inclusive_start s ≡ 0 → range_inclusive_end s ≡ n → range_inclusive_exhausted s ≡ false → YieldsList (range_inclusive_steps gap Follows) (λ x. x) s (range_with_len 0 (n + 1))
 yields_through s n a b f =
-    let l : range_inclusive_left gap s ≡ suc n = rw f (omega arith) in
-    let k : range_with_len (range_inclusive_start s) (range_inclusive_left gap s) ≡ range_with_len 0 (suc n) = rw (l, a) refl in
+    let l : range_inclusive_left gap s ≡ n + 1 = rw f (omega arith) in
+    let k : range_with_len (range_inclusive_start s) (range_inclusive_left gap s) ≡ range_with_len 0 (n + 1) = rw (l, a) refl in
     rw k at (yields_up s)
 
 down_next : (a n m x : ℕ) → n ≡ m + 1 → x ≡ a + m → down_from a n ≡ x ∷ down_from a m

@@ -1,7 +1,7 @@
 // The items of a body of names or of strings, one after another.
-ghost use Rattle.std.specs.Prelude.{◌≡◌, ◌+◌, ◌<◌, min, length, slice_index};
+ghost use Rattle.std.specs.Prelude.{◌≡◌, ◌+◌, ◌<◌, min, length, slice_get, slice_index};
 ghost use Rattle.std.specs.Iterator.{YieldsFirstRef, item_count};
-ghost use Rattle.layout.specs.Items.{split, nth, text_at};
+ghost use Rattle.layout.specs.Items.{split, text_at};
 ghost use Rattle.layout.specs.Readers.{Stepped, Shows, pending};
 
 use nodes::bytes::tail;
@@ -18,6 +18,7 @@ pub struct Items<'a> {
 
 impl<'a> Items<'a> {
     /// The items of a body, from the first on.
+    #[tactic(auto, unfolding(crate::specs::Items::split))]
     pub(crate) fn of(body: &'a [u8]) -> Items<'a>
         ensures { pending result ≡ split body.now }
     {
@@ -35,6 +36,7 @@ impl<'a> Items<'a> {
     }
 
     /// How many items are to come.
+    #[tactic(auto, using(crate::proofs::Splitting::items_few))]
     pub fn count(self) -> u32
         ensures { result ≡ length (pending self.entry) }
     {
@@ -43,7 +45,7 @@ impl<'a> Items<'a> {
 
     // The item that comes after `k` others.
     fn item(mut self, k: u32) -> Option<&'a [u8]>
-        ensures { Shows result (nth (pending self.entry) k) }
+        ensures { Shows result (slice_get (pending self.entry) k) }
     {
         self.nth(k as usize)
     }
@@ -63,6 +65,7 @@ impl<'a> Iterator for Items<'a> {
 
     ghost remaining = { item_count pending };
 
+    #[tactic(auto, using(crate::proofs::Splitting::items_end, crate::proofs::Splitting::items_next))]
     fn next(&mut self) -> Option<&'a [u8]> {
         if self.left == 0 || self.rest.is_empty() {
             return None;

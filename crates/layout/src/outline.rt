@@ -2,10 +2,10 @@
 //
 // Proved: these are the end, the depth and the parent that the definitions of the format give. A body of nodes may be
 // damaged: past its end every size reads as 0, so there is an answer for every node number.
-ghost use Rattle.std.specs.Prelude.{◌≡◌, ◌+◌, ◌*◌, nat_lt};
+ghost use Rattle.std.specs.Prelude.{◌≡◌, ◌+◌, ◌*◌, length, unwrap_or, nat_lt};
 ghost use Rattle.nodes.specs.Bytes.{le16};
 ghost use Rattle.layout.specs.Faults.{end_of};
-ghost use Rattle.nodes.specs.Tree.{depth, parent};
+ghost use Rattle.nodes.specs.Tree.{around, depth, parent};
 
 use nodes::bytes::bytes_at;
 
@@ -31,16 +31,31 @@ fn spans(nodes: &[u8], j: u32, i: u32) -> bool
     (i as usize) < end_of(nodes, j)
 }
 
+// How many nodes up to and including `last` span node `i`.
+fn count_spanning(nodes: &[u8], last: u32, i: u32) -> usize
+    ensures { result ≡ length (around (end_of nodes.now) i (last + 1)) }
+{
+    (0..=last).filter(|j| spans(nodes, *j, i)).count()
+}
+
 /// How many nodes up to and including `i` span it: node 0 has depth 1.
+#[tactic(auto, unfolding(nodes::specs::Tree::depth))]
 pub fn depth(nodes: &[u8], i: u32) -> usize
     ensures { result ≡ depth (end_of nodes.now) i }
 {
-    (0..=i).filter(|j| spans(nodes, *j, i)).count()
+    count_spanning(nodes, i, i)
+}
+
+// The highest lower node that spans node `i`, if one does.
+fn innermost(nodes: &[u8], i: u32) -> Option<u32>
+    ensures { unwrap_or result 0 ≡ parent (end_of nodes.now) i }
+{
+    (0..i).rfind(|j| spans(nodes, *j, i))
 }
 
 /// The innermost lower node that spans node `i`; 0 where there is none.
 pub fn parent(nodes: &[u8], i: u32) -> u32
     ensures { result ≡ parent (end_of nodes.now) i }
 {
-    (0..i).rfind(|j| spans(nodes, *j, i)).unwrap_or(0)
+    innermost(nodes, i).unwrap_or(0)
 }

@@ -142,6 +142,7 @@ fn part_at(file: &[u8], at: u32) -> Part
 }
 
 // The window that the pair at a byte tells.
+#[tactic(auto, unfolding(crate::specs::Head::body_at))]
 fn body_at(file: &[u8], at: u32) -> &[u8]
     requires { at ≤ 20 }
     ensures { result.now ≡ body_at file.now at }

@@ -1,7 +1,8 @@
 -- A file without a fault is well formed.
-use Rattle.std.proofs.Common.{◌≡◌, ℕ, ◌+◌, ◌*◌, ◌<◌, ◌≤◌, true, false, not, ◌&&◌, eqb, List, [], ◌++◌, length, get_or, Some, None, Option, sym, refl, ap, ◌∙◌, inl, inr, arith, lt-ltb, eqb-true}
+use Rattle.std.proofs.Common.{◌≡◌, ℕ, ◌+◌, ◌*◌, ◌<◌, ◌≤◌, true, false, not, ◌&&◌, eqb, cond, List, [], ◌++◌, length, get_or, Some, None, Ok, Err, Option, Result, sym, refl, ap, ◌∙◌, inl, inr, arith, lt-ltb, eqb-true}
 use borrow.Author.Tests.{not-false}
 use Rattle.std.proofs.lemmas.Bool.{cases_lt}
+use Rattle.finding.specs.Checks.{passes_unless}
 use Rattle.finding.proofs.Bools.{neither}
 use Rattle.nodes.specs.Bytes.{byte, window}
 use Rattle.layout.specs.Head.{node_body, name_body, string_body}
@@ -119,22 +120,37 @@ in_parts file =
     first_joined head_causes (text_causes ++ node_causes) file
     ∙ ap (first_of (first_among head_causes file)) (first_joined text_causes node_causes file)
 
-pub in_head : (file : List ℕ) (x : Finding FileFault) → Some x ≡ first_among head_causes file → first_fault file ≡ Some x
-in_head file x h =
-    in_parts file ∙ ap (λ o. first_of o (first_of (first_among text_causes file) (first_among node_causes file))) (sym h)
-
-pub in_texts : (file : List ℕ) (o : Option (Finding FileFault)) → None ≡ first_among head_causes file → o ≡ first_of (first_among text_causes file) (first_among node_causes file) → first_fault file ≡ o
-in_texts file o h t =
-    in_parts file
-    ∙ ap (λ p. first_of p (first_of (first_among text_causes file) (first_among node_causes file))) (sym h)
-    ∙ sym t
-
 -- where the head has no fault, there are as many nodes as may be looked at
-pub looked_at : (file : List ℕ) → None ≡ first_among head_causes file → between 1 1024 (count (node_body file)) ≡ true
+looked_at : (file : List ℕ) → first_among head_causes file ≡ None → between 1 1024 (count (node_body file)) ≡ true
 looked_at file h =
-    let clear = first_clear head_causes file (sym h) in
+    let clear = first_clear head_causes file h in
     let f = few file (laid file (not-false _ (clear.1.1.0 0 (omega arith)))) (not-false _ (clear.1.1.1.0 0 (omega arith))) in
     few_between (count (node_body file)) f.0 f.1
 
-pub judged : (file : List ℕ) (o : Option (Finding FileFault)) → first_fault file ≡ o → Judged o file
-judged file o h = record { first = sym h; sound = λ e. well_formed file (h ∙ e) }
+passed : (o : Option (Finding FileFault)) → Ok tt ≡ passes_unless o → o ≡ None
+passed None h = refl
+passed (Some x) h = let z : ◌≡◌ {A = ℕ} 0 1 = cc in absurd (omega arith)
+
+judged : (r : Result Unit (Finding FileFault)) (file : List ℕ) → r ≡ passes_unless (first_fault file) → Judged r file
+judged r file h = record { first = h; sound = λ e. well_formed file (passed (first_fault file) (sym e ∙ h)) }
+
+failed : (o p : Option (Finding FileFault)) (x : Finding FileFault) → Err x ≡ passes_unless o → Err x ≡ passes_unless (first_of o p)
+failed None p x h = let z : ◌≡◌ {A = ℕ} 0 1 = cc in absurd (omega arith)
+failed (Some y) p x h = h
+
+-- The verdict is the head's where that fails, else that of the names and strings where they fail, else that of the nodes.
+module _ (file : List ℕ) (r : Result Unit (Finding FileFault)) where
+  pub head_fails : (x : Finding FileFault) → r ≡ Err x → Err x ≡ passes_unless (first_among head_causes file) → Judged r file
+  head_fails x e h = judged r file (e ∙ failed _ (first_of (first_among text_causes file) (first_among node_causes file)) x h ∙ ap passes_unless (sym (in_parts file)))
+
+  past_head : Ok tt ≡ passes_unless (first_among head_causes file) → first_fault file ≡ first_of (first_among text_causes file) (first_among node_causes file)
+  past_head h = in_parts file ∙ ap (λ o. first_of o (first_of (first_among text_causes file) (first_among node_causes file))) (passed _ h)
+
+  pub texts_fail : (x : Finding FileFault) → r ≡ Err x → Ok tt ≡ passes_unless (first_among head_causes file) → Err x ≡ passes_unless (first_among text_causes file) → Judged r file
+  texts_fail x e h t = judged r file (e ∙ failed _ (first_among node_causes file) x t ∙ ap passes_unless (sym (past_head h)))
+
+  pub nodes_judge : Ok tt ≡ passes_unless (first_among head_causes file) → Ok tt ≡ passes_unless (first_among text_causes file) → r ≡ passes_unless (cond (between 1 1024 (count (node_body file))) (first_among node_causes file) None) → Judged r file
+  nodes_judge h t n =
+      let few : between 1 1024 (count (node_body file)) ≡ true = looked_at file (passed _ h) in
+      let all : first_fault file ≡ first_among node_causes file = past_head h ∙ ap (λ o. first_of o (first_among node_causes file)) (passed _ t) in
+      judged r file (n ∙ ap (λ b. passes_unless (cond b (first_among node_causes file) None)) few ∙ ap passes_unless (sym all))

@@ -1,5 +1,6 @@
 -- What examining a file answers.
 use Rattle.std.specs.Prelude.{◌≡◌, ℕ, List, ◌++◌, Some, None, Ok, Err, Option, Result}
+use Rattle.finding.specs.Checks.{passes_unless}
 use Rattle.finding.specs.declared.Finding.{Finding}
 use Rattle.layout.specs.Faults.{first_among, head_causes, text_causes, node_causes}
 use Rattle.layout.specs.Readers.{file_of}
@@ -26,7 +27,7 @@ abbrev pub Examined : Result Reader (Finding FileFault) → List ℕ → Type 0
 Examined (Ok reader) file = Taken reader file
 Examined (Err fault) file = first_fault file ≡ Some fault
 
--- The first fault, and what follows where there is none.
-pub record Judged (found : Option (Finding FileFault)) (file : List ℕ) : Type 0 where
-  pub first : found ≡ first_fault file
-  pub sound : found ≡ None → WellFormed file
+-- A file passes, and what follows is so, or fails with its first fault.
+pub record Judged (verdict : Result Unit (Finding FileFault)) (file : List ℕ) : Type 0 where
+  pub first : verdict ≡ passes_unless (first_fault file)
+  pub sound : verdict ≡ Ok tt → WellFormed file

@@ -1,10 +1,10 @@
 // The head of a file: its size, its edition, its contents.
 ghost use Rattle.std.specs.Prelude.{◌≡◌, not, length};
-ghost use Rattle.finding.specs.Search.{lowest};
-ghost use Rattle.layout.specs.Faults.{place_of, first_among, head_causes};
+ghost use Rattle.finding.specs.Checks.{found, passes_unless};
+ghost use Rattle.finding.specs.Search.{passing};
+ghost use Rattle.layout.specs.Faults.{first_among, head_causes};
 ghost use Rattle.layout.specs.Head.{sized, edition_one, contiguous, counted};
 ghost use Rattle.layout.specs.Readers.{file_of};
-ghost use Rattle.layout.specs.declared.fault.FileFault.TheVariants.{FileSize, Edition, BodyOrder, NodeCount};
 
 use finding::Finding;
 use layout::fault::FileFault;
@@ -14,7 +14,7 @@ use nodes::bytes::byte;
 fn is_sized(file: &[u8]) -> bool
     ensures { result ≡ sized file.now }
 {
-    28 <= file.len() && file.len() <= 24_576
+    (28..=24_576).contains(&file.len())
 }
 
 fn is_edition_one(file: &[u8]) -> bool
@@ -36,55 +36,25 @@ fn is_contiguous(size: usize, c: Contents) -> bool
 fn is_counted(c: Contents) -> bool
     ensures { result ≡ counted c }
 {
-    1 <= c.nodes.length && c.nodes.length <= 16_384 && c.nodes.length % 16 == 0
+    (1..=16_384).contains(&c.nodes.length) && c.nodes.length % 16 == 0
 }
 
-// The place of a fault of the file as a whole, unless the file is as it should be.
-fn whole(good: bool) -> Option<u32>
-    ensures { result ≡ lowest (λ _. not good) 1 }
+// A check of the file as a whole.
+fn whole(cause: FileFault, good: bool) -> Result<(), Finding<FileFault>>
+    ensures { result ≡ passes_unless (found cause (passing (not good) 0)) }
 {
-    if good { None } else { Some(0) }
+    Finding::absent(cause, (!good).then_some(0))
 }
 
-fn file_size_place(reader: &Reader) -> Option<u32>
-    ensures { result ≡ place_of FileSize (file_of reader.now) }
+/// Checks the head; it fails with its first fault, which is of the file as a whole.
+#[tactic(auto, unfolding(finding::specs::Search::lowest))]
+pub(crate) fn check(reader: &Reader) -> Result<(), Finding<FileFault>>
+    ensures { result ≡ passes_unless (first_among head_causes (file_of reader.now)) }
 {
-    whole(is_sized(reader.file()))
-}
-
-fn edition_place(reader: &Reader) -> Option<u32>
-    ensures { result ≡ place_of Edition (file_of reader.now) }
-{
-    whole(is_edition_one(reader.file()))
-}
-
-fn body_order_place(reader: &Reader) -> Option<u32>
-    ensures { result ≡ place_of BodyOrder (file_of reader.now) }
-{
-    whole(is_contiguous(reader.file().len(), reader.contents()))
-}
-
-fn node_count_place(reader: &Reader) -> Option<u32>
-    ensures { result ≡ place_of NodeCount (file_of reader.now) }
-{
-    whole(is_counted(reader.contents()))
-}
-
-/// The first fault of the head, which is of the file as a whole.
-pub(crate) fn head_fault(reader: &Reader) -> Option<Finding<FileFault>>
-    ensures { result ≡ first_among head_causes (file_of reader.now) }
-{
-    if let Some(place) = file_size_place(reader) {
-        return Some(Finding::new(place, FileFault::FileSize));
-    }
-    if let Some(place) = edition_place(reader) {
-        return Some(Finding::new(place, FileFault::Edition));
-    }
-    if let Some(place) = body_order_place(reader) {
-        return Some(Finding::new(place, FileFault::BodyOrder));
-    }
-    if let Some(place) = node_count_place(reader) {
-        return Some(Finding::new(place, FileFault::NodeCount));
-    }
-    None
+    let file = reader.file();
+    let contents = reader.contents();
+    whole(FileFault::FileSize, is_sized(file))?;
+    whole(FileFault::Edition, is_edition_one(file))?;
+    whole(FileFault::BodyOrder, is_contiguous(file.len(), contents))?;
+    whole(FileFault::NodeCount, is_counted(contents))
 }

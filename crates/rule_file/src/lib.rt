@@ -12,23 +12,18 @@ ghost use Rattle.rule_file.specs.Verdict.{Judged, Examined};
 ghost use Rattle.rule_file.specs.Worked.{Cases};
 
 use finding::Finding;
-use head::head_fault;
 use layout::fault::FileFault;
 use layout::reader::Reader;
 
 mod head;
 
-// The first fault of the file that a reader is over.
-fn judge(reader: &Reader) -> Option<Finding<FileFault>>
+// Checks the file that a reader is over; it fails with the file's first fault.
+fn judge(reader: &Reader) -> Result<(), Finding<FileFault>>
     ensures { Judged result (file_of reader.now) }
 {
-    if let Some(fault) = head_fault(reader) {
-        return Some(fault);
-    }
-    if let Some(fault) = texts::faults::first_fault(reader) {
-        return Some(fault);
-    }
-    tree::faults::check(reader).err()
+    head::check(reader)?;
+    texts::faults::check(reader)?;
+    tree::faults::check(reader)
 }
 
 /// Examines a file: a reader over it, or its first fault.
@@ -36,10 +31,8 @@ pub fn examine(file: &[u8]) -> Result<Reader<'_>, Finding<FileFault>>
     ensures { Examined result file.now }
 {
     let reader = Reader::over(file);
-    match judge(&reader) {
-        Some(fault) => Err(fault),
-        None => Ok(reader),
-    }
+    judge(&reader)?;
+    Ok(reader)
 }
 
 /// The worked cases, which the definitions compute. The call does nothing: its contract is the cases.

@@ -192,10 +192,6 @@ pub depth_is : (e : ℕ → ℕ) (i : ℕ) → i < e i → depth e i ≡ suc (le
 unfolding depth ancestors
 depth_is e i s = rw (lt-ltb i (e i) s) refl
 
-pub sound_more : (e : ℕ → ℕ) (n i : ℕ) → Sound e n i → bad_size e n i ≡ false → Sound e n (i + 1)
-sound_more e n i s h k l =
-    elim (cases_lt k i) [ inl lt ↦ s k lt | inr le ↦ let q : k ≡ i = omega arith in rw q h ]
-
 pub depth_root : (e : ℕ → ℕ) → 0 < e 0 → too_deep e 0 ≡ false
 unfolding too_deep
 depth_root e s = rw (depth_is e 0 s ∙ ap (λ xs. suc (length xs)) (ancestors_root e)) refl
