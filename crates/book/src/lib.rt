@@ -28,6 +28,7 @@ pub const MOST_LOTS: u32 = 4096;
 /// A book of lots, numbered from 0, with the columns 0 to 7.
 ///
 /// A column over 7 is refused as `BookFault::Column`; then a lot outside the book, also one below 0, as `BookFault::Lot`.
+// Kept: a call gives its column and its lot as the two numbers that a rule passes, since it is the book that refuses them.
 pub trait Book {
     /// What the book means, which decides all that its calls show of it.
     ghost meaning: { Self → Meaning };

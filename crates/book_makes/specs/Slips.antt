@@ -1,26 +1,9 @@
 -- What a book of slips means: the spots of its slips are the places, and the slips not filled in are free.
-use Rattle.std.specs.Prelude.{ℕ, ◌-◌, Bool, false, ◌&&◌, ◌==◌, ℤ, None, Option, is_some}
-use Rattle.std.specs.declared.hash.FoldHasher.{FoldHasher}
-use Rattle.std.specs.declared.hash.BuildHasherDefault.{BuildHasherDefault}
-use Rattle.std.specs.HashMap.{HashMap, get, hash_map_len}
+use Rattle.std.specs.Prelude.{ℕ, ◌-◌, false, None}
+use Rattle.std.specs.HashMap.{hash_map_len}
 use Rattle.book.specs.Meanings.{Meaning}
-use Rattle.book.specs.declared.spot.Spot.{Spot}
+use Rattle.book_makes.specs.Piles.{Slips, value_in, holds}
 use Rattle.book_makes.specs.declared.slips.SlipsBook.{SlipsBook}
-
--- The value by spot on each slip that is filled in.
-abbrev pub Slips : Type 0
-Slips = HashMap Spot ℤ (BuildHasherDefault FoldHasher)
-
-abbrev pub same_spot : Spot → Spot → Bool
-same_spot s t = s.column == t.column && s.lot == t.lot
-
--- The value on the slip of column c and lot l, if there is one.
-abbrev pub value_in : Slips → ℕ → ℕ → Option ℤ
-value_in slips c l = get same_spot slips (record { column = c; lot = l })
-
--- Whether there is a slip of column c and lot l.
-abbrev pub holds : Slips → ℕ → ℕ → Bool
-holds slips c l = is_some (value_in slips c l)
 
 -- A book of n lots, of the slips filled in and the number of those that are free.
 abbrev pub of_slips : ℕ → Slips → ℕ → Meaning

@@ -1,12 +1,12 @@
 // How a book of slips is made, and its calls.
-ghost use Rattle.std.specs.Prelude.{◌≡◌, min, IfOk, Ok};
+ghost use Rattle.std.specs.Prelude.{◌≡◌, ◌<◌, min, IfOk, Ok};
 ghost use Rattle.book.specs.Meanings.{with_room, done, left};
 ghost use Rattle.book_makes.specs.Slips.{slips_meaning, empty_slips};
 
 use super::SlipsBook;
 use book::fault::BookFault;
 use book::spot::{Spot, find_spot};
-use book::{Book, MOST_LOTS};
+use book::{Book, COLUMNS, MOST_LOTS};
 use std::alloc::{AllocError, Global};
 use std::collections::HashMap;
 
@@ -15,15 +15,19 @@ impl SlipsBook {
     pub fn new(heap: Global, lots: u32, slips: u32) -> Result<SlipsBook, AllocError>
         ensures { IfOk result (λ book. slips_meaning book ≡ empty_slips (min lots 4096) slips) }
     {
+        let lots = lots.min(MOST_LOTS);
+        // No more slips than there are columns and lots are ever filled in.
+        let room = slips.min(COLUMNS * lots);
         Ok(SlipsBook {
-            lots: lots.min(MOST_LOTS),
+            lots,
             most: slips,
-            slips: HashMap::with_capacity(heap, slips as usize)?,
+            slips: HashMap::with_capacity(heap, room as usize)?,
         })
     }
 
     // Fills in the slip of a spot, anew where there is one.
     fn put_at(&mut self, spot: Spot, value: i32) -> Result<(), BookFault>
+        requires { (spot.column < 8) × (spot.lot < self.old.lots) }
         ensures answer { result ≡ done (with_room (slips_meaning self.old) (Ok spot)) }
         ensures after { slips_meaning self.new ≡ left (slips_meaning self.old) value (with_room (slips_meaning self.old) (Ok spot)) }
     {
@@ -34,6 +38,7 @@ impl SlipsBook {
         if self.slips.len() >= self.most as usize {
             return Err(BookFault::NoPlace);
         }
+        // There is room, so it cannot fail.
         let filled: Result<_, _> = self.slips.insert(spot, value);
         filled.unwrap();
         Ok(())
