@@ -2,7 +2,7 @@
 use Rattle.std.proofs.Common.{◌≡◌, ℕ, zero, suc, ◌+◌, ◌-◌, ◌<◌, ◌≤◌, min, List, [], ◌∷◌, length, get_or, take, drop, Some, None, Option, option_map, slice_get, sym, refl, ap, ◌∙◌, inl, inr, arith, Bor}
 use Rattle.std.proofs.lemmas.List.{take_all, drop_all}
 use Rattle.std.proofs.lemmas.Bool.{cases_lt}
-use Rattle.layout.specs.Items.{items, nth}
+use Rattle.layout.specs.Items.{items}
 use Rattle.layout.specs.Readers.{Shows}
 
 pub items_none : (n : ℕ) → items n [] ≡ []
@@ -32,12 +32,7 @@ items_few zero bs = omega arith
 items_few (suc n) [] = omega arith
 items_few (suc n) (b ∷ bs) = let h = items_few n (drop b bs) in omega arith
 
-pub nth_is : {X : Type 0} (all : List X) (k : ℕ) → nth all k ≡ slice_get all k
-nth_is [] k = refl
-nth_is (x ∷ xs) zero = refl
-nth_is (x ∷ xs) (suc k) = nth_is xs k
-
 -- the window that is shown is item k
-pub shows_nth : (r : Option (Bor (List ℕ))) (all : List (List ℕ)) (k : ℕ) → option_map (λ x. x.now) r ≡ slice_get all k → Shows r (nth all k)
-shows_nth None all k h = nth_is all k ∙ sym h
-shows_nth (Some item) all k h = nth_is all k ∙ sym h
+pub shows_nth : (r : Option (Bor (List ℕ))) (all : List (List ℕ)) (k : ℕ) → option_map (λ x. x.now) r ≡ slice_get all k → Shows r (slice_get all k)
+shows_nth None all k h = sym h
+shows_nth (Some item) all k h = sym h

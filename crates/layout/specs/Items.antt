@@ -2,7 +2,7 @@
 --
 -- An item keeps its length byte, so that the items in order are the bytes of the body. The last item may be cut off by
 -- the body's end. At most 255 are lawful, and the 256th is looked at only to be refused.
-use Rattle.std.specs.Prelude.{ℕ, zero, suc, ◌+◌, Bool, List, [], ◌∷◌, length, take, drop, Some, None, Option, nat_lt, slice_index}
+use Rattle.std.specs.Prelude.{ℕ, zero, suc, ◌+◌, Bool, List, [], ◌∷◌, length, take, drop, Some, None, Option, nat_lt, slice_get, slice_index}
 use Rattle.layout.specs.Head.{name_body, string_body}
 
 abbrev pub items : ℕ → List ℕ → List (List ℕ)
@@ -27,15 +27,10 @@ names file = split (name_body file)
 abbrev pub strings : List ℕ → List (List ℕ)
 strings file = split (string_body file)
 
-abbrev pub nth : {X : Type 0} → List X → ℕ → Option X
-nth [] k = None
-nth (x ∷ xs) zero = Some x
-nth (x ∷ xs) (suc k) = nth xs k
-
 abbrev pub text_of : Option (List ℕ) → Option (List ℕ)
 text_of None = None
 text_of (Some item) = Some (text item)
 
 -- The text of item k, where there are so many.
 abbrev pub text_at : List (List ℕ) → ℕ → Option (List ℕ)
-text_at all k = text_of (nth all k)
+text_at all k = text_of (slice_get all k)

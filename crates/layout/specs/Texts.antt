@@ -1,17 +1,16 @@
 -- When a name and a string are lawful.
-use Rattle.std.specs.Prelude.{ℕ, Bool, true, false, not, ◌&&◌, ◌||◌, List, [], ◌∷◌, codes, ◌==◌, slice_index}
+use Rattle.std.specs.Prelude.{ℕ, Bool, not, ◌&&◌, ◌||◌, List, [], ◌∷◌, codes, ◌==◌, slice_index}
+use Rattle.std.specs.List.{list_all, list_any}
 use Rattle.std.specs.Str.{bytes_eq}
 use Rattle.layout.specs.Items.{text, cut_off}
 use Rattle.nodes.specs.Kinds.{between}
 
 abbrev pub all : (ℕ → Bool) → List ℕ → Bool
-all test [] = true
-all test (b ∷ bs) = test b && all test bs
+all test bs = list_all test bs
 
 -- The bytes are those of some member of the list.
 abbrev pub among : List ℕ → List (List ℕ) → Bool
-among bs [] = false
-among bs (xs ∷ xss) = bytes_eq bs xs || among bs xss
+among bs xss = list_any (bytes_eq bs) xss
 
 -- A to Z, a to z, and the underscore.
 abbrev pub letter : ℕ → Bool

@@ -1,7 +1,7 @@
 // The items of a body of names or of strings, one after another.
-ghost use Rattle.std.specs.Prelude.{◌≡◌, ◌+◌, ◌<◌, min, length, slice_index};
+ghost use Rattle.std.specs.Prelude.{◌≡◌, ◌+◌, ◌<◌, min, length, slice_get, slice_index};
 ghost use Rattle.std.specs.Iterator.{YieldsFirstRef, item_count};
-ghost use Rattle.layout.specs.Items.{split, nth, text_at};
+ghost use Rattle.layout.specs.Items.{split, text_at};
 ghost use Rattle.layout.specs.Readers.{Stepped, Shows, pending};
 
 use nodes::bytes::tail;
@@ -43,7 +43,7 @@ impl<'a> Items<'a> {
 
     // The item that comes after `k` others.
     fn item(mut self, k: u32) -> Option<&'a [u8]>
-        ensures { Shows result (nth (pending self.entry) k) }
+        ensures { Shows result (slice_get (pending self.entry) k) }
     {
         self.nth(k as usize)
     }

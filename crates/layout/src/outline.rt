@@ -7,17 +7,17 @@ ghost use Rattle.nodes.specs.Bytes.{le16};
 ghost use Rattle.layout.specs.Faults.{end_of};
 ghost use Rattle.nodes.specs.Tree.{depth, parent};
 
-use nodes::bytes::byte;
+use nodes::bytes::bytes_at;
 
 /// How many nodes node `i` spans: itself and all below it.
 pub fn size_of(nodes: &[u8], i: u32) -> u16
     ensures { result ≡ le16 nodes.now (16 * i + 4) }
 {
-    let at = 16 * i as usize + 4;
-    u16::from_le_bytes([byte(nodes, at), byte(nodes, at + 1)])
+    u16::from_le_bytes(bytes_at(nodes, 16 * i as usize + 4))
 }
 
 /// Where node `i` ends: one past the last node that it spans.
+#[tactic(auto, unfolding(crate::specs::Faults::end_of))]
 pub fn end_of(nodes: &[u8], i: u32) -> usize
     ensures { result ≡ end_of nodes.now i }
 {

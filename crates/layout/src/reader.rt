@@ -28,7 +28,7 @@ pub struct Contents {
 }
 
 /// A reader over a lent file of any bytes. It copies nothing: names, strings and node records are windows of the file.
-#[derive(Clone, Copy)]
+#[derive(Clone, Copy, PartialEq, Eq, Debug)]
 pub struct Reader<'a> {
     file: &'a [u8],
 }
@@ -45,8 +45,7 @@ impl<'a> Reader<'a> {
     pub fn file(&self) -> &'a [u8]
         ensures { result.now ≡ file_of self.now }
     {
-        let Reader { file } = *self;
-        file
+        self.file
     }
 
     /// The contents as the head tells them, true or not.

@@ -1,31 +1,16 @@
--- Windows that are cut at the end.
-use Rattle.std.proofs.Common.{◌≡◌, ℕ, ◌+◌, ◌-◌, min, List, [], length, take, drop, sym, ap, ◌∙◌, inl, inr, arith, length-drop}
-use Rattle.std.proofs.lemmas.List.{take_all, drop_all}
+-- Bytes from a place on, by what follows the bytes before it.
+use Rattle.std.proofs.Common.{◌≡◌, ℕ, zero, suc, ◌+◌, ◌<◌, ◌≤◌, List, ◌∙◌, inl, inr, arith, subst, slice_index}
 use Rattle.std.proofs.lemmas.Bool.{cases_lt}
-use Rattle.nodes.specs.Bytes.{window}
+use Rattle.std.specs.Array.{IsFromFnResultFrom}
+use Rattle.std.specs.Fn.{Called}
+use denote.Param.Members.{Mut}
 
-pub window_cut : (bs : List ℕ) (at size from to : ℕ) → from ≡ min (length bs) at → to ≡ min (length bs) (from + size) → take (to - from) (drop from bs) ≡ window bs at size
-window_cut bs at size from to p q =
-    elim (cases_lt (length bs) at) [
-      | inl past ↦
-          let a : from ≡ length bs = omega arith in
-          let none : drop from bs ≡ [] = drop_all from bs (omega arith) in
-          let none' : drop at bs ≡ [] = drop_all at bs (omega arith) in
-          rw (none, none') (let z : to - from ≡ 0 = omega arith in take_all (to - from) [] (omega arith) ∙ sym (take_all size [] (omega arith)))
-      | inr le ↦
-          let a : from ≡ at = omega arith in
-          elim (cases_lt (length bs) (from + size)) [
-            | inl over ↦
-                take_all (to - from) (drop from bs) (omega (arith, length-drop from bs))
-                ∙ ap (λ k. drop k bs) a
-                ∙ sym (take_all size (drop at bs) (omega (arith, length-drop at bs)))
-            | inr fits ↦ let s : to - from ≡ size = omega arith in ap (λ k. take k (drop from bs)) s ∙ ap (λ k. take size (drop k bs)) a
-          ]
-    ]
-
-pub drop_min : (bs : List ℕ) (n from : ℕ) → from ≡ min (length bs) n → drop from bs ≡ drop n bs
-drop_min bs n from p =
-    elim (cases_lt (length bs) n) [
-      | inl past ↦ drop_all from bs (omega arith) ∙ sym (drop_all n bs (omega arith))
-      | inr le ↦ let a : from ≡ n = omega arith in ap (λ k. drop k bs) a
+-- an array of calls at each number in turn, each of which leaves the closure as it was
+pub from_calls : {F : Type 0} {g : Mut F (ℕ × Unit {0}) ℕ} (f q : F) (h : ℕ → ℕ) (ys : List ℕ) (i n : ℕ) → q ≡ f → ((k y : ℕ) (r : F) → Called g f (k, tt) y r → (r ≡ f) × (y ≡ h k)) → IsFromFnResultFrom g q ys i n → (k : ℕ) → i ≤ k → k < i + n → slice_index ys k ≡ h k
+from_calls f q h ys i zero e c r k a b = absurd (omega arith)
+from_calls {g = g} f q h ys i (suc n) e c r k a b =
+    let d = c i r.1 r.0 (subst (λ p. Called g p (i, tt) r.1 r.0) e r.3) in
+    elim (cases_lt i k) [
+      | inl lt ↦ from_calls f r.0 h ys (i + 1) n d.0 c r.4 k (omega arith) (omega arith)
+      | inr le ↦ let z : k ≡ i = omega arith in rw z (r.2.1 0 ∙ d.1)
     ]

@@ -1,75 +1,21 @@
 // Windows and fields of a row of bytes. Past the end a byte reads as 0, and a window is cut at the end.
-ghost use Rattle.std.specs.Prelude.{◌≡◌, ◌+◌, ◌^◌, ◌<◌, length, drop};
+ghost use Rattle.std.specs.Prelude.{◌≡◌, ℕ, ◌+◌, ◌<◌, drop, slice_index};
 ghost use Rattle.nodes.specs.Bytes.{byte, window, le16, le32, le64};
+
+use std::array;
 
 /// The byte at a place.
 pub fn byte(bytes: &[u8], at: usize) -> u8
     ensures { result ≡ byte bytes.now at }
 {
-    if at < bytes.len() { bytes[at] } else { 0 }
-}
-
-/// The number of two bytes.
-pub fn u16_at(bytes: &[u8], at: u32) -> u16
-    ensures { result ≡ le16 bytes.now at }
-{
-    let at = at as usize;
-    u16::from_le_bytes([byte(bytes, at), byte(bytes, at + 1)])
-}
-
-/// The number of four bytes.
-pub fn u32_at(bytes: &[u8], at: u32) -> u32
-    ensures { result ≡ le32 bytes.now at }
-{
-    let at = at as usize;
-    u32::from_le_bytes([
-        byte(bytes, at),
-        byte(bytes, at + 1),
-        byte(bytes, at + 2),
-        byte(bytes, at + 3),
-    ])
-}
-
-/// The signed number of eight bytes.
-pub(crate) fn i64_at(bytes: &[u8], at: u32) -> i64
-    ensures { result ≡ le64 bytes.now at }
-{
-    let at = at as usize;
-    i64::from_le_bytes([
-        byte(bytes, at),
-        byte(bytes, at + 1),
-        byte(bytes, at + 2),
-        byte(bytes, at + 3),
-        byte(bytes, at + 4),
-        byte(bytes, at + 5),
-        byte(bytes, at + 6),
-        byte(bytes, at + 7),
-    ])
-}
-
-// The window of `size` bytes from `at` on, cut at the end.
-fn clip(bytes: &[u8], at: usize, size: usize) -> &[u8]
-    requires { at + size < 2 ^ 64 }
-    ensures { result.now ≡ window bytes.now at size }
-{
-    let from = bytes.len().min(at);
-    let to = bytes.len().min(from + size);
-    &bytes[from..to]
-}
-
-/// The window of `size` bytes from `at` on, cut at the end.
-pub fn cut(bytes: &[u8], at: u32, size: u32) -> &[u8]
-    ensures { result.now ≡ window bytes.now at size }
-{
-    clip(bytes, at as usize, size as usize)
+    bytes.get(at).copied().unwrap_or(0)
 }
 
 // What follows the first `n` bytes.
 fn skip(bytes: &[u8], n: usize) -> &[u8]
     ensures { result.now ≡ drop n bytes.now }
 {
-    let from = bytes.len().min(n);
-    &bytes[from..]
+    bytes.get(n..).unwrap_or(&[])
 }
 
 /// What follows the first byte.
@@ -77,4 +23,47 @@ pub fn tail(bytes: &[u8]) -> &[u8]
     ensures { result.now ≡ drop 1 bytes.now }
 {
     skip(bytes, 1)
+}
+
+/// The window of `size` bytes from `at` on, cut at the end.
+pub fn cut(bytes: &[u8], at: u32, size: u32) -> &[u8]
+    ensures { result.now ≡ window bytes.now at size }
+{
+    let rest = skip(bytes, at as usize);
+    rest.get(..size as usize).unwrap_or(rest)
+}
+
+// The first bytes of a row, as many as are asked for.
+fn first_bytes<const N: usize>(bytes: &[u8]) -> [u8; N]
+    ensures { (k : ℕ) → k < N → slice_index result k ≡ byte bytes.now k }
+{
+    array::from_fn(|k| byte(bytes, k))
+}
+
+/// The bytes from a place on, as many as are asked for.
+pub fn bytes_at<const N: usize>(bytes: &[u8], at: usize) -> [u8; N]
+    ensures { (k : ℕ) → k < N → slice_index result k ≡ byte bytes.now (at + k) }
+{
+    first_bytes(skip(bytes, at))
+}
+
+/// The number of two bytes.
+pub fn u16_at(bytes: &[u8], at: u32) -> u16
+    ensures { result ≡ le16 bytes.now at }
+{
+    u16::from_le_bytes(bytes_at(bytes, at as usize))
+}
+
+/// The number of four bytes.
+pub fn u32_at(bytes: &[u8], at: u32) -> u32
+    ensures { result ≡ le32 bytes.now at }
+{
+    u32::from_le_bytes(bytes_at(bytes, at as usize))
+}
+
+/// The signed number of eight bytes.
+pub(crate) fn i64_at(bytes: &[u8], at: u32) -> i64
+    ensures { result ≡ le64 bytes.now at }
+{
+    i64::from_le_bytes(bytes_at(bytes, at as usize))
 }

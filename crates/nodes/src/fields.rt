@@ -6,7 +6,7 @@ use crate::bytes::{byte, i64_at};
 use crate::kind::Kind;
 
 /// What the value of a node is.
-#[derive(Clone, Copy)]
+#[derive(Clone, Copy, PartialEq, Eq, Debug)]
 pub enum Value {
     /// nothing: it is zero
     Zero,
@@ -19,7 +19,7 @@ pub enum Value {
 }
 
 /// What the fields of a kind of node may be.
-#[derive(Clone, Copy)]
+#[derive(Clone, Copy, PartialEq, Eq, Debug)]
 pub struct Fields {
     /// the lowest tag
     pub first: u8,
@@ -80,7 +80,7 @@ impl Kind {
 fn is_under(value: i64, limit: u32) -> bool
     ensures { result ≡ under value limit }
 {
-    0 <= value && value < limit as i64
+    (0..limit as i64).contains(&value)
 }
 
 fn value_fits(rule: Value, tag: u8, strings: u32, value: i64) -> bool
@@ -108,8 +108,7 @@ fn row_fits(row: Fields, names: u32, strings: u32, bytes: &[u8]) -> bool
     ensures { result ≡ fits row names strings bytes.now }
 {
     let tag = byte(bytes, 1);
-    row.first <= tag
-        && tag <= row.last
+    (row.first..=row.last).contains(&tag)
         && name_fits(row.named, byte(bytes, 2), names)
         && byte(bytes, 3) == 0
         && byte(bytes, 6) == 0
@@ -121,8 +120,8 @@ fn row_fits(row: Fields, names: u32, strings: u32, bytes: &[u8]) -> bool
 pub fn bad_fields(names: u32, strings: u32, bytes: &[u8]) -> bool
     ensures { result ≡ bad_fields names strings bytes.now }
 {
-    match Kind::from_number(byte(bytes, 0)) {
-        None => true,
-        Some(kind) => !row_fits(kind.fields(), names, strings, bytes),
+    match Kind::try_from(byte(bytes, 0)) {
+        Ok(kind) => !row_fits(kind.fields(), names, strings, bytes),
+        Err(_) => true,
     }
 }

@@ -130,6 +130,24 @@ impl Kind {
         )
     }
 
+    /// Whether it is a statement.
+    pub fn is_statement(self) -> bool
+        ensures { result ≡ between 8 16 (number self) }
+    {
+        matches!(
+            self,
+            Kind::Assignment
+                | Kind::Step
+                | Kind::CallStatement
+                | Kind::If
+                | Kind::For
+                | Kind::While
+                | Kind::Return
+                | Kind::Break
+                | Kind::Continue
+        )
+    }
+
     /// Whether it is a `for` or a `while`.
     pub fn is_loop(self) -> bool
         ensures { result ≡ between 12 13 (number self) }

@@ -6,7 +6,7 @@ use crate::bytes::{byte, i64_at, u16_at};
 use crate::kind::Kind;
 
 /// The fields of a node: what the tag, the name and the value mean depends on the kind.
-#[derive(Clone, Copy)]
+#[derive(Clone, Copy, PartialEq, Eq, Debug)]
 pub struct Node {
     pub kind: Kind,
     pub tag: u8,
@@ -19,10 +19,11 @@ pub struct Node {
 
 impl Node {
     /// The node that a record shows; none where its kind is unknown.
+    #[tactic(auto, using(crate::proofs::Naming::ok_named))]
     pub fn decode(bytes: &[u8]) -> Option<Node>
         ensures { result ≡ decoded bytes.now }
     {
-        let kind = Kind::from_number(byte(bytes, 0))?;
+        let kind = Kind::try_from(byte(bytes, 0)).ok()?;
         Some(Node {
             kind,
             tag: byte(bytes, 1),

@@ -1,11 +1,12 @@
 // The children of a node, by its kind.
 ghost use Rattle.std.specs.Prelude.{◌≡◌};
+ghost use Rattle.nodes.specs.Kinds.{number};
 ghost use Rattle.nodes.specs.Shapes.{shape, of_class};
 
 use crate::kind::Kind;
 
 /// A class of kinds that may stand at the same place.
-#[derive(Clone, Copy)]
+#[derive(Clone, Copy, PartialEq, Eq, Debug)]
 pub enum Class {
     Import,
     Declaration,
@@ -23,7 +24,7 @@ pub enum Class {
 }
 
 /// How many children a slot takes.
-#[derive(Clone, Copy)]
+#[derive(Clone, Copy, PartialEq, Eq, Debug)]
 pub enum Times {
     One,
     Perhaps,
@@ -31,7 +32,7 @@ pub enum Times {
 }
 
 /// A place for children of one class.
-#[derive(Clone, Copy)]
+#[derive(Clone, Copy, PartialEq, Eq, Debug)]
 pub struct Slot {
     pub class: Class,
     pub times: Times,
@@ -39,22 +40,29 @@ pub struct Slot {
 
 impl Class {
     /// Whether a kind is of the class.
+    pub fn includes(self, kind: Kind) -> bool
+        ensures { result ≡ of_class self (number kind) }
+    {
+        match self {
+            Class::Import => kind == Kind::Import,
+            Class::Declaration => matches!(kind, Kind::ScalarDeclaration | Kind::ArrayDeclaration),
+            Class::Method => kind == Kind::Method,
+            Class::Parameter => kind == Kind::Parameter,
+            Class::Block => kind == Kind::Block,
+            Class::Statement => kind.is_statement(),
+            Class::Update => matches!(kind, Kind::Assignment | Kind::Step),
+            Class::Location => matches!(kind, Kind::ScalarLocation | Kind::ArrayLocation),
+            Class::Expression => kind.is_expression(),
+            Class::Call => kind == Kind::Call,
+            Class::Argument => kind.is_expression() || kind == Kind::Text,
+        }
+    }
+
+    /// Whether a number is that of a kind of the class.
     pub fn has(self, kind: u8) -> bool
         ensures { result ≡ of_class self kind }
     {
-        match self {
-            Class::Import => kind == 2,
-            Class::Declaration => 3 <= kind && kind <= 4,
-            Class::Method => kind == 5,
-            Class::Parameter => kind == 6,
-            Class::Block => kind == 7,
-            Class::Statement => 8 <= kind && kind <= 16,
-            Class::Update => 8 <= kind && kind <= 9,
-            Class::Location => 17 <= kind && kind <= 18,
-            Class::Expression => 17 <= kind && kind <= 24,
-            Class::Call => kind == 22,
-            Class::Argument => 17 <= kind && kind <= 25,
-        }
+        Kind::try_from(kind).is_ok_and(|kind| self.includes(kind))
     }
 }
 
