@@ -20,7 +20,7 @@ pub struct Held {
 }
 
 /// What the rules look at, of one node.
-#[derive(Clone, Copy)]
+#[derive(Clone, Copy, PartialEq, Eq, Debug)]
 pub struct Facts {
     pub node: Node,
     /// a declaration: its scope has the name already

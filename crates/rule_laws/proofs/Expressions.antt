@@ -1,7 +1,7 @@
 -- Where there is no violation, every expression has a type, but for a call of a void method that is a statement.
 use Rattle.std.proofs.Common.{◌≡◌, ℕ, zero, suc, ◌-◌, ◌<◌, ◌≤◌, true, false, ◌||◌, eqb, ◌⊎◌, List, [], ◌∷◌, ◌++◌, map, length, is_some, Some, None, Option, refl, ap, inl, inr, arith}
 use Rattle.std.proofs.lemmas.List.Elements.{All-append, All-from_recursion, recursion_from_All}
-use Rattle.std.proofs.lemmas.Bool.{cases_Bool, or_left, or_right}
+use Rattle.std.proofs.lemmas.Bool.{cases_Bool}
 use Rattle.std.proofs.lemmas.Bool.Decides.{nat_tests}
 use Rattle.std.specs.List.{AllByRecursion as All}
 use Rattle.nodes.specs.Kinds.{number, between}
@@ -181,10 +181,10 @@ module _ (t : Table) (names strings : ℕ) (sh : Shaped t.nodes names strings) (
       let n = at_elem (λ c. (i < c) × (c < end ns i)) (parts ns i) c bounds e in
       let k = at_elem (λ c. between 17 25 (kind_at ns c) ≡ true) (parts ns i) c ks e in
       elim (cases_Bool (eqb (kind_at ns c) 25)) [
-        | inl s ↦ or_left (eqb (kind_at ns c) 25) (has_type (type_of t c)) s
+        | inl s ↦ grind arith
         | inr s ↦
             let x : between 17 24 (kind_at ns c) ≡ true = grind (arith, nat_tests) in
-            or_right (eqb (kind_at ns c) 25) (has_type (type_of t c)) (child_typed i c l b e (typed_from m c (omega arith) (omega arith) x))
+            let y = child_typed i c l b e (typed_from m c (omega arith) (omega arith) x) in grind arith
       ]))) b
 
 pub accepted_typed : AcceptedTyped

@@ -2,7 +2,7 @@
 use Rattle.std.proofs.Common.{◌≡◌, ℕ, zero, suc, ◌+◌, ◌*◌, ◌/◌, ◌%◌, ◌<◌, ◌≤◌, true, cond, eqb, ltb, List, [], ◌∷◌, map, length, get_or, None, unwrap_or, sym, refl, ap, ◌∙◌, subst, inl, inr, arith}
 use mathlib.Core.Path.{fun_ext}
 use borrow.Author.Tests.{not-false}
-use Rattle.std.proofs.lemmas.List.{get_or_past, get_or_push, get_or_append_left}
+use Rattle.std.proofs.lemmas.List.{get_or_past}
 use Rattle.std.proofs.lemmas.Grind.{common_steps}
 use Rattle.std.proofs.lemmas.Bool.Decides.{nat_tests}
 use Rattle.std.proofs.lemmas.Bool.{cases_lt}
@@ -32,9 +32,10 @@ tabulate_length f (suc n) = grind (arith, common_steps, tabulate_length f n)
 tabulate_at : {X : Type 0} (f : ℕ → X) (n i : ℕ) (d : X) → i < n → get_or (tabulate f n) i d ≡ f i
 tabulate_at f zero i d l = absurd (omega arith)
 tabulate_at f (suc n) i d l =
+    let long = tabulate_length f n in
     elim (cases_lt i n) [
-      | inl lt ↦ get_or_append_left (tabulate f n) (f n ∷ []) d i (omega (arith, tabulate_length f n)) ∙ tabulate_at f n i d lt
-      | inr le ↦ let q : i ≡ n = omega arith in rw q (get_or_push (tabulate f n) (f n) d n (tabulate_length f n))
+      | inl lt ↦ let e = tabulate_at f n i d lt in grind (arith, common_steps)
+      | inr le ↦ grind (arith, common_steps)
     ]
 
 -- the nodes are whole records
