@@ -1,5 +1,5 @@
 // The faults of the nodes.
-ghost use Rattle.std.specs.Prelude.{◌≡◌, ◌<◌, ◌≤◌, if◌then◌else◌, None};
+ghost use Rattle.std.specs.Prelude.{◌≡◌, if◌then◌else◌, None};
 ghost use Rattle.finding.specs.Checks.{found, passes_unless};
 ghost use Rattle.layout.specs.Faults.{place_of, first_among, node_causes};
 ghost use Rattle.layout.specs.Head.{node_body};

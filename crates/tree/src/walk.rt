@@ -9,7 +9,7 @@ use crate::body::{Body, MOST_NODES};
 use layout::outline::end_of;
 
 /// A node on the walk: where it ends, where its parent ends, and how deep it lies where no size is at fault.
-#[derive(Clone, Copy)]
+#[derive(Clone, Copy, PartialEq, Eq, Debug)]
 pub(crate) struct Met {
     pub(crate) node: u16,
     stop: usize,
