@@ -1,5 +1,5 @@
 -- Ancestors: the parent, and the parent's ancestors.
-use Rattle.std.proofs.Common.{◌≡◌, ℕ, zero, suc, ◌+◌, ◌<◌, ◌≤◌, true, false, cond, ◌||◌, eqb, ltb, leb, [], ◌∷◌, length, None, sym, refl, ap, ◌∙◌, ◌⊎◌, inl, inr, add-one, arith, ltb-false, le-ltb, lt-ltb, eq-eqb, ne_eqb, eqb-true, leb-false}
+use Rattle.std.proofs.Common.{◌≡◌, ℕ, zero, suc, ◌<◌, ◌≤◌, true, false, cond, ◌||◌, eqb, ltb, leb, [], ◌∷◌, length, None, sym, refl, ap, ◌∙◌, ◌⊎◌, inl, inr, add-one, arith, ltb-false, le-ltb, lt-ltb, eq-eqb, ne_eqb, eqb-true, leb-false}
 use borrow.Author.Tests.{eqb-false, not-false}
 use Rattle.std.proofs.lemmas.Bool.{cases_lt}
 use Rattle.nodes.specs.Tree.{holder, parent, around, ancestors, depth, bad_size, too_deep}

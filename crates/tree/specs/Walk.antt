@@ -19,4 +19,4 @@ met_at e i = record { node = i; stop = e i; limit = e (parent e i); depth = leve
 
 -- What the walk tells of the nodes that are still to come.
 abbrev pub ahead : Walk → List Met
-ahead w = map (met_at (end_of w.nodes.now)) (range_with_len w.next (w.count - w.next))
+ahead w = map (met_at (end_of w.body.nodes.now)) (range_with_len w.next (w.body.len - w.next))

@@ -1,5 +1,5 @@
 // The children of a node: they fill the slots of its kind.
-ghost use Rattle.std.specs.Prelude.{◌≡◌, ◌<◌, map};
+ghost use Rattle.std.specs.Prelude.{◌≡◌, map};
 ghost use Rattle.std.specs.Option.{option_map};
 ghost use Rattle.std.specs.Iterator.{YieldsFirst, item_count};
 ghost use Rattle.layout.specs.Faults.{end_of, kind_byte, children_fit, bad_children};
@@ -49,15 +49,14 @@ struct ChildKinds<'a> {
 
 impl<'a> ChildKinds<'a> {
     // The kinds of the children of node i.
-    fn of(nodes: &'a [u8], i: u32) -> ChildKinds<'a>
-        requires { i < 1024 }
+    fn of(nodes: &'a [u8], i: u16) -> ChildKinds<'a>
         ensures { kinds_left result ≡ map (kind_byte nodes.now) (children (end_of nodes.now) i) }
     {
-        let size = size_of(nodes, i);
+        let size = size_of(nodes, u32::from(i));
         ChildKinds {
             nodes,
             next: i as usize + 1,
-            stop: i + u32::from(size),
+            stop: u32::from(i) + u32::from(size),
             left: size.saturating_sub(1),
         }
     }
@@ -82,8 +81,7 @@ impl Iterator for ChildKinds<'_> {
 }
 
 // Whether the children of node i fill the slots of its kind.
-fn do_children_fit(nodes: &[u8], i: u32) -> bool
-    requires { i < 1024 }
+fn do_children_fit(nodes: &[u8], i: u16) -> bool
     ensures { result ≡ children_fit nodes.now i }
 {
     let Ok(kind) = Kind::try_from(byte(nodes, 16 * i as usize)) else {
@@ -95,8 +93,7 @@ fn do_children_fit(nodes: &[u8], i: u32) -> bool
 }
 
 /// Whether the children of node i are not as its kind asks, or node 0 is no program.
-pub(crate) fn has_bad_children(nodes: &[u8], i: u32) -> bool
-    requires { i < 1024 }
+pub(crate) fn has_bad_children(nodes: &[u8], i: u16) -> bool
     ensures { result ≡ bad_children nodes.now i }
 {
     !do_children_fit(nodes, i) || i == 0 && byte(nodes, 16 * i as usize) != Kind::Program.number()

@@ -1,5 +1,5 @@
 // The faults of the nodes.
-ghost use Rattle.std.specs.Prelude.{◌≡◌, ◌<◌, ◌≤◌, if◌then◌else◌, None};
+ghost use Rattle.std.specs.Prelude.{◌≡◌, if◌then◌else◌, None};
 ghost use Rattle.finding.specs.Checks.{found, passes_unless};
 ghost use Rattle.layout.specs.Faults.{place_of, first_among, node_causes};
 ghost use Rattle.layout.specs.Head.{node_body};
@@ -8,32 +8,21 @@ ghost use Rattle.layout.specs.declared.fault.FileFault.TheVariants.{NodeFields, 
 ghost use Rattle.nodes.specs.Kinds.{between};
 ghost use Rattle.nodes.specs.Nodes.{count};
 
-use crate::MOST_NODES;
+use crate::body::Body;
 use crate::children::has_bad_children;
-use crate::sizes::{depth_fault, size_fault};
 use finding::Finding;
 use layout::fault::FileFault;
 use layout::reader::Reader;
 use nodes::fields::bad_fields;
 
-// The nodes of a file that has 1 to 1,024.
-#[derive(Clone, Copy)]
-struct Nodes<'a> {
-    reader: Reader<'a>,
-    len: u32,
-    ghost counted: { len ≡ count (node_body (file_of reader)) },
-    ghost some: { 0 < len },
-    ghost few: { len ≤ 1024 },
-}
-
-impl<'a> Nodes<'a> {
+impl Body<'_> {
     // No node has fields that its kind does not allow.
     fn check_fields(&self) -> Result<(), Finding<FileFault>>
         ensures { result ≡ passes_unless (found NodeFields (place_of NodeFields (file_of self.now.reader))) }
     {
         let names = self.reader.names().count();
         let strings = self.reader.strings().count();
-        let mut records = self.reader.node_body().chunks_exact(16);
+        let mut records = self.nodes.chunks_exact(16);
         let place = records.position(|record| bad_fields(names, strings, record));
         Finding::absent(FileFault::NodeFields, place.map(|i| i as u32))
     }
@@ -42,17 +31,15 @@ impl<'a> Nodes<'a> {
     fn check_sizes(&self) -> Result<(), Finding<FileFault>>
         ensures { result ≡ passes_unless (found NodeSize (place_of NodeSize (file_of self.now.reader))) }
     {
-        let place = size_fault(self.reader.node_body(), self.len);
-        Finding::absent(FileFault::NodeSize, place)
+        Finding::absent(FileFault::NodeSize, self.size_fault())
     }
 
     // Each node has the children that its kind asks for, and node 0 is a program.
     fn check_children(&self) -> Result<(), Finding<FileFault>>
         ensures { result ≡ passes_unless (found NodeChildren (place_of NodeChildren (file_of self.now.reader))) }
     {
-        let nodes = self.reader.node_body();
-        let place = (0..self.len).find(|i| has_bad_children(nodes, *i));
-        Finding::absent(FileFault::NodeChildren, place)
+        let place = (0..self.len).find(|i| has_bad_children(self.nodes, *i));
+        Finding::absent(FileFault::NodeChildren, place.map(u32::from))
     }
 
     // No node lies deeper than 64, where sizes nest.
@@ -60,8 +47,7 @@ impl<'a> Nodes<'a> {
         requires { place_of NodeSize (file_of self.now.reader) ≡ None }
         ensures { result ≡ passes_unless (found NodeDepth (place_of NodeDepth (file_of self.now.reader))) }
     {
-        let place = depth_fault(self.reader.node_body(), self.len);
-        Finding::absent(FileFault::NodeDepth, place)
+        Finding::absent(FileFault::NodeDepth, self.depth_fault())
     }
 }
 
@@ -69,16 +55,11 @@ impl<'a> Nodes<'a> {
 pub fn check(reader: &Reader) -> Result<(), Finding<FileFault>>
     ensures { result ≡ passes_unless (if between 1 1024 (count (node_body (file_of reader.now))) then first_among node_causes (file_of reader.now) else None) }
 {
-    let n = reader.node_count();
-    if n == 0 || n > MOST_NODES {
+    let Some(body) = Body::of(reader) else {
         return Ok(());
-    }
-    let nodes = Nodes {
-        reader: *reader,
-        len: n as u32,
     };
-    nodes.check_fields()?;
-    nodes.check_sizes()?;
-    nodes.check_children()?;
-    nodes.check_depths()
+    body.check_fields()?;
+    body.check_sizes()?;
+    body.check_children()?;
+    body.check_depths()
 }

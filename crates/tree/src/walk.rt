@@ -1,17 +1,17 @@
 // A walk over the nodes, with a stack of the nodes around.
-ghost use Rattle.std.specs.Prelude.{◌≡◌, ℕ, ◌+◌, ◌-◌, ◌<◌, ◌≤◌, ◌||◌, map, nat_le, nat_lt, slice_index};
+ghost use Rattle.std.specs.Prelude.{◌≡◌, ℕ, ◌+◌, ◌-◌, ◌<◌, ◌≤◌, ◌||◌, length, map, nat_le, nat_lt, slice_index};
 ghost use Rattle.std.specs.Iterator.{YieldsFirst, item_count};
 ghost use Rattle.std.specs.List.{range_with_len};
 ghost use Rattle.layout.specs.Faults.{end_of};
 ghost use Rattle.nodes.specs.Tree.{parent};
 
-use crate::MOST_NODES;
+use crate::body::{Body, MOST_NODES};
 use layout::outline::end_of;
 
 /// A node on the walk: where it ends, where its parent ends, and how deep it lies where no size is at fault.
-#[derive(Clone, Copy)]
+#[derive(Clone, Copy, PartialEq, Eq, Debug)]
 pub(crate) struct Met {
-    pub(crate) node: u32,
+    pub(crate) node: u16,
     stop: usize,
     limit: usize,
     pub(crate) depth: usize,
@@ -30,32 +30,29 @@ impl Met {
 /// for its parent. No node above the top one and below the next spans the next.
 #[derive(Drop)]
 pub(crate) struct Walk<'a> {
-    nodes: &'a [u8],
-    count: u32,
-    next: u32,
+    body: Body<'a>,
+    next: u16,
     stack: [u16; MOST_NODES],
     top: usize,
-    ghost few: { count ≤ 1024 },
-    ghost within: { next ≤ count },
+    ghost within: { next ≤ body.len },
+    ghost slots: { length stack ≡ 1024 },
     ghost room: { top < next },
     ghost bottom: { slice_index stack 0 ≡ 0 },
     ghost rising: { (k : ℕ) → k < top → slice_index stack k < slice_index stack (k + 1) },
-    ghost upward: { (k : ℕ) → k < top → slice_index stack k ≡ parent (end_of nodes.now) (slice_index stack (k + 1)) },
+    ghost upward: { (k : ℕ) → k < top → slice_index stack k ≡ parent (end_of body.nodes.now) (slice_index stack (k + 1)) },
     ghost lower: { slice_index stack top < next },
-    ghost past: { (k : ℕ) → slice_index stack top < k → k < next → end_of nodes.now k ≤ next },
+    ghost past: { (k : ℕ) → slice_index stack top < k → k < next → end_of body.nodes.now k ≤ next },
 }
 
 impl<'a> Walk<'a> {
     ghost use Rattle.tree.specs.Walk.{ahead, met_at};
 
-    /// A walk over so many nodes.
-    pub(crate) fn over(nodes: &'a [u8], count: u32) -> Walk<'a>
-        requires { (0 < count) × (count ≤ 1024) }
-        ensures { ahead result ≡ map (met_at (end_of nodes.now)) (range_with_len 1 (count - 1)) }
+    /// A walk over the nodes of a body.
+    pub(crate) fn over(body: Body<'a>) -> Walk<'a>
+        ensures { ahead result ≡ map (met_at (end_of body.entry.nodes.now)) (range_with_len 1 (body.entry.len - 1)) }
     {
         Walk {
-            nodes,
-            count,
+            body,
             next: 1,
             stack: [0; MOST_NODES],
             top: 0,
@@ -64,17 +61,16 @@ impl<'a> Walk<'a> {
 
     // Where the node on top ends.
     fn top_end(&self) -> usize
-        ensures { result ≡ end_of self.now.nodes.now (slice_index self.now.stack self.now.top) }
+        ensures { result ≡ end_of self.now.body.nodes.now (slice_index self.now.stack self.now.top) }
     {
-        end_of(self.nodes, u32::from(self.stack[self.top]))
+        end_of(self.body.nodes, u32::from(self.stack[self.top]))
     }
 
     // Leaves the nodes that do not span the next one. The top one is then its parent.
     fn close(&mut self)
-        ensures parent { slice_index self.new.stack self.new.top ≡ parent (end_of self.new.nodes.now) self.new.next }
-        ensures nodes { self.new.nodes ≡ self.old.nodes }
+        ensures parent { slice_index self.new.stack self.new.top ≡ parent (end_of self.new.body.nodes.now) self.new.next }
+        ensures body { self.new.body ≡ self.old.body }
         ensures next { self.new.next ≡ self.old.next }
-        ensures count { self.new.count ≡ self.old.count }
     {
         while self.top > 0 && self.top_end() <= self.next as usize {
             self.top -= 1;
@@ -92,18 +88,18 @@ impl Iterator for Walk<'_> {
     ghost remaining = { item_count ahead };
 
     fn next(&mut self) -> Option<Met> {
-        if self.next == self.count {
+        if self.next == self.body.len {
             return None;
         }
         self.close();
         let node = self.next;
         let limit = self.top_end();
         self.top += 1;
-        self.stack[self.top] = node as u16;
+        self.stack[self.top] = node;
         self.next += 1;
         Some(Met {
             node,
-            stop: end_of(self.nodes, node),
+            stop: end_of(self.body.nodes, u32::from(node)),
             limit,
             depth: self.top + 1,
         })

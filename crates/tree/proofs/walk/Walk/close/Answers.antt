@@ -13,15 +13,15 @@ pub invariant_of-self-clause-past : goal.invariant_of-self-clause-past
 invariant_of-self-clause-past c =
     let s = c.loop-self.self in
     let r : s.top - 1 + 1 ≡ s.top = omega arith in
-    past_up (end_of s.nodes.now) s.next (slice_index s.stack s.top) _ (rw r at (s.upward (s.top - 1) (omega arith))) s.lower (omega arith) s.past
+    past_up (end_of s.body.nodes.now) s.next (slice_index s.stack s.top) _ (rw r at (s.upward (s.top - 1) (omega arith))) s.lower (omega arith) s.past
 
 pub returns-else-top_end-self-clause-parent : goal.returns-else-top_end-self-clause-parent
 returns-else-top_end-self-clause-parent c =
     let s = c.loop-self.self in
-    sym (parent_is (end_of s.nodes.now) s.next (slice_index s.stack s.top) s.lower s.past (inr (omega arith)))
+    sym (parent_is (end_of s.body.nodes.now) s.next (slice_index s.stack s.top) s.lower s.past (inr (omega arith)))
 
 pub returns-after-loop-self-clause-parent : goal.returns-after-loop-self-clause-parent
 returns-after-loop-self-clause-parent c =
     let s = c.loop-self.self in
     let r : s.top ≡ 0 = omega arith in
-    sym (parent_is (end_of s.nodes.now) s.next (slice_index s.stack s.top) s.lower s.past (inl (ap (slice_index s.stack) r ∙ s.bottom)))
+    sym (parent_is (end_of s.body.nodes.now) s.next (slice_index s.stack s.top) s.lower s.past (inl (ap (slice_index s.stack) r ∙ s.bottom)))

@@ -9,13 +9,13 @@ use Rattle.tree.specs.Walk.{ahead}
 use Rattle.tree.specs.declared.walk.Met.{Met}
 use Rattle.tree.proofs.Nesting.{no_fault, spanned, depth_root, told_deep}
 use Rattle.tree.proofs.Walking.{levels_depth, lowest_met}
-use Rattle.tree.proofs.sizes.depth_fault.Goals as goal
+use Rattle.tree.proofs.body.Body.depth_fault.Goals as goal
 
 pub returns : goal.returns
 returns c =
-    let e = end_of c.args.nodes.now in
-    let n = c.args.n in
-    let s : Spanned e n = spanned e n (omega arith) (no_fault e n c.requires.sized) in
+    let e = end_of c.args.self.now.nodes.now in
+    let n = c.args.self.now.len in
+    let s : Spanned e n = spanned e n (omega arith) (no_fault e n c.requires) in
     let test : Met → Bool = λ m. nat_eq m.depth 65 in
     let m : c.map.result ≡ option_map (λ m. m.node) c.find.result = search rules in
     let f = first_from_find c.find.new.self _ c.find.result (λ m. test m ≡ true) (λ m. test m ≡ false) c.find.ensures.ran (YieldsList-from_first (λ x. x) ahead _ c.over.ensures) (λ x q k. search (rules, tests)) (λ x q k. search (rules, tests)) in
