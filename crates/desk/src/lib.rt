@@ -12,6 +12,7 @@ use std::process::ExitCode;
 use std::rt::{Env, Files};
 
 mod books;
+mod line_error;
 pub mod look;
 mod running;
 mod script;

@@ -11,6 +11,7 @@ use std::rt::Files;
 use wording::words::MOST_BYTES;
 
 /// What is done with each file.
+// Kept: a line of a script holds its command too, so a command is a value, and no closure.
 #[derive(Clone, Copy, PartialEq, Eq, Debug)]
 pub enum Command {
     Check,

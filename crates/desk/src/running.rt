@@ -1,63 +1,18 @@
 // Runs a script, line by line.
 use crate::Desk;
 use crate::books::AnyBook;
+use crate::line_error::LineError;
 use crate::look::{Program, Seen};
-use crate::script::{Line, NoLine, column_name, parse};
+use crate::script::{Line, column_name, parse};
 use book::calls::Answer;
 use book::fault::BookFault;
 use book::values::Entry;
 use finding::Numbered;
-use std::alloc::AllocError;
+use std::fs;
 use std::io::{self, Eprint, Print};
 use std::process::ExitCode;
 use std::rt::Files;
-use std::{fmt, fs};
 use wording::text::Shown;
-
-/// Why a script ends at a line.
-#[derive(Drop)]
-enum LineError {
-    /// it is no line of a script
-    NoLine,
-    /// memory does not suffice for the book that it asks for
-    NoMemory,
-    /// it calls a book before one is made
-    NoBook,
-    /// it names a file that cannot be read
-    Unreadable,
-    /// what it prints could not be written
-    Output(io::Error),
-}
-
-impl fmt::Display for LineError {
-    fn fmt<W: fmt::Write>(&self, f: &mut fmt::Formatter<W>) -> fmt::Result {
-        match self {
-            LineError::NoLine => f.write_str("is no line of a script"),
-            LineError::NoMemory => f.write_str("asks for a book that memory does not suffice for"),
-            LineError::NoBook => f.write_str("calls a book before one is made"),
-            LineError::Unreadable => f.write_str("names a file that cannot be read"),
-            LineError::Output(reason) => write!(f, "{reason}"),
-        }
-    }
-}
-
-impl From<NoLine> for LineError {
-    fn from(_: NoLine) -> LineError {
-        LineError::NoLine
-    }
-}
-
-impl From<AllocError> for LineError {
-    fn from(_: AllocError) -> LineError {
-        LineError::NoMemory
-    }
-}
-
-impl From<io::Error> for LineError {
-    fn from(reason: io::Error) -> LineError {
-        LineError::Output(reason)
-    }
-}
 
 impl<R: Files + Print + Eprint + AllocGlobal, P: Program> Desk<'_, R, P> {
     /// Does what the lines of a script say. It ends at the first line that cannot be done, which is named on standard error; what
@@ -88,24 +43,27 @@ impl<R: Files + Print + Eprint + AllocGlobal, P: Program> Desk<'_, R, P> {
     // Does what a line says with the book that is open.
     fn do_line(&self, open: &mut Option<AnyBook>, line: &str) -> Result<(), LineError> {
         let rt = self.rt;
-        match parse(line)? {
-            None => {}
-            Some(Line::Table(rows)) => open_new(rt, open, AnyBook::table(rt.alloc(), rows)?)?,
-            Some(Line::Slips(lots, slips)) => {
+        let Some(said) = parse(line)? else {
+            return Ok(());
+        };
+        match said {
+            Line::Table(rows) => open_new(rt, open, AnyBook::table(rt.alloc(), rows)?)?,
+            Line::Slips(lots, slips) => {
                 open_new(rt, open, AnyBook::slips(rt.alloc(), lots, slips)?)?;
             }
-            Some(Line::Call(call)) => {
+            Line::Call(call) => {
                 let book = open.as_mut().ok_or(LineError::NoBook)?;
                 print_answer(rt, book.call(call))?;
             }
-            Some(Line::Dump) => {
+            Line::Dump => {
                 let book = open.as_ref().ok_or(LineError::NoBook)?;
                 print_values(rt, book)?;
             }
-            Some(Line::Look(command, path)) => match self.look(command, path)? {
-                Seen::Good | Seen::Refused => {}
-                Seen::Unreadable => return Err(LineError::Unreadable),
-            },
+            Line::Look(command, path) => {
+                if self.look(command, path)? == Seen::Unreadable {
+                    return Err(LineError::Unreadable);
+                }
+            }
         }
         Ok(())
     }

@@ -1,11 +1,12 @@
 // A script: lines that say what is to be done with a book and with rule files.
+use crate::line_error::LineError;
 use crate::look::Command;
 use book::calls::Call;
 use std::num::ParseIntError;
 use std::str::{FromStr, SplitWhitespace};
 
 /// What a line of a script says.
-#[derive(Clone, Copy)]
+#[derive(Clone, Copy, PartialEq, Eq, Debug)]
 pub(crate) enum Line<'a> {
     /// a new table book, of so many rows
     Table(u32),
@@ -19,13 +20,9 @@ pub(crate) enum Line<'a> {
     Look(Command, &'a str),
 }
 
-/// That a line is no line of a script.
-#[derive(Clone, Copy, PartialEq, Eq, Debug)]
-pub(crate) struct NoLine;
-
-/// What a line says, or nothing where it is blank or begins with `#`. It is no line of a script by an unknown word, a word too
-/// few or too many, or a number that does not fit.
-pub(crate) fn parse(line: &str) -> Result<Option<Line<'_>>, NoLine> {
+/// What a line says, or nothing where it is blank or begins with `#`. It is `NoLine` by an unknown word, a word too few or too
+/// many, or a number that does not fit.
+pub(crate) fn parse(line: &str) -> Result<Option<Line<'_>>, LineError> {
     if line.starts_with('#') {
         return Ok(None);
     }
@@ -33,10 +30,10 @@ pub(crate) fn parse(line: &str) -> Result<Option<Line<'_>>, NoLine> {
     let Some(word) = words.next() else {
         return Ok(None);
     };
-    let said = first_word(word, &mut words).ok_or(NoLine)?;
+    let said = first_word(word, &mut words).ok_or(LineError::NoLine)?;
     match words.next() {
         None => Ok(Some(said)),
-        Some(_) => Err(NoLine),
+        Some(_) => Err(LineError::NoLine),
     }
 }
 

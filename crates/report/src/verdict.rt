@@ -15,7 +15,7 @@ use rule::Rule;
 use rule_file::examine;
 use sentences::{faults, violations};
 use std::fmt;
-use wording::text::{Phrase, Piece, Sentence};
+use wording::text::{Phrase, Piece, Sentence, Three};
 
 /// What a look at a good file gives.
 pub trait Found {
@@ -91,7 +91,7 @@ impl<'a, G, R: Reason> Verdict<'a, G, R> {
     // The words of the verdict, and the sentence that says why.
     fn told(&self) -> (Phrase<'a>, Sentence<'a>) {
         match &self.found {
-            Ok(_) => (counts(self.reader), Sentence::one(Phrase::default())),
+            Ok(_) => (counts(self.reader), Sentence::default()),
             Err(reason) => (refused(reason.answer()), reason.sentence(self.reader)),
         }
     }
@@ -140,7 +140,7 @@ fn refused<'a>(answer: (u32, u32)) -> Phrase<'a> {
 }
 
 fn counts<'a>(reader: Reader<'a>) -> Phrase<'a> {
-    Phrase(
+    Three(
         Piece::count("good, ", reader.node_count(), " nodes"),
         Piece::Number(", ", reader.names().count() as i64, " names"),
         Piece::Number(", ", reader.strings().count() as i64, " strings"),

@@ -9,7 +9,7 @@ use nodes::kind::Kind;
 use nodes::node::Node;
 use std::iter;
 use texts::spelling::{is_identifier, is_string_text};
-use wording::text::{Phrase, Piece, Sentence};
+use wording::text::{Phrase, Piece, Sentence, Three};
 use wording::words::MOST_NODES;
 use wording::{outline, words};
 
@@ -43,7 +43,7 @@ fn node_place<'a>(reader: Reader<'a>, i: u32) -> Phrase<'a> {
         None => "of no known kind",
     };
     let depth = outline::depth(reader.node_body(), i);
-    Phrase(
+    Three(
         Piece::Number("node ", i as i64, ", "),
         Piece::Words(noun),
         Piece::count(" at depth ", depth, ", has "),
@@ -54,7 +54,7 @@ fn node_place<'a>(reader: Reader<'a>, i: u32) -> Phrase<'a> {
 fn claim<'a>(reader: Reader<'a>, finding: Finding<FileFault>) -> Phrase<'a> {
     let place = finding.place;
     match finding.cause {
-        FileFault::FileSize => Phrase(
+        FileFault::FileSize => Three(
             Piece::Words("file has "),
             words::file_size(reader.file()),
             Piece::Words(", and a rule file has 28 to 24576"),
@@ -99,18 +99,19 @@ fn misplaced<'a>(reader: Reader<'a>) -> Phrase<'a> {
         ("names begin at byte ", names, end(nodes)),
         ("strings begin at byte ", strings, end(names)),
     ];
-    for (words, part, wanted) in begins {
-        if part.offset as i64 != wanted {
-            return Phrase::two(
-                Piece::Number(words, part.offset as i64, ""),
-                Piece::Number(", but should begin at byte ", wanted, ""),
-            );
-        }
+    let wrong = begins
+        .into_iter()
+        .find(|(_, part, wanted)| part.offset as i64 != *wanted);
+    match wrong {
+        Some((words, part, wanted)) => Phrase::two(
+            Piece::Number(words, part.offset as i64, ""),
+            Piece::Number(", but should begin at byte ", wanted, ""),
+        ),
+        None => Phrase::two(
+            Piece::count("file ends at byte ", reader.file().len(), ""),
+            Piece::Number(", but should end at byte ", end(strings), ""),
+        ),
     }
-    Phrase::two(
-        Piece::count("file ends at byte ", reader.file().len(), ""),
-        Piece::Number(", but should end at byte ", end(strings), ""),
-    )
 }
 
 fn miscounted<'a>(length: u32) -> Piece<'a> {
@@ -132,14 +133,21 @@ fn is_whole(item: &[u8]) -> bool {
     item.len() > byte(item, 0) as usize
 }
 
+// Why an item is refused that has a length that it may have.
+fn over_or_cut(item: &[u8]) -> &'static str {
+    if is_whole(item) {
+        " bytes, and is the 256th, one too many"
+    } else {
+        " bytes, and is cut off before their end"
+    }
+}
+
 fn name_length<'a>(item: &[u8]) -> Piece<'a> {
     let length = byte(item, 0);
     let why = if length == 0 || length > 31 {
         " bytes, and a name has 1 to 31"
-    } else if is_whole(item) {
-        " bytes, and is the 256th, one too many"
     } else {
-        " bytes, and is cut off before their end"
+        over_or_cut(item)
     };
     Piece::Number("has ", length as i64, why)
 }
@@ -179,10 +187,8 @@ fn string_text<'a>(item: &'a [u8]) -> Piece<'a> {
     }
     let why = if length > 63 {
         " bytes, and a string has at most 63"
-    } else if is_whole(item) {
-        " bytes, and is the 256th, one too many"
     } else {
-        " bytes, and is cut off before their end"
+        over_or_cut(item)
     };
     Piece::Number("has ", length as i64, why)
 }
@@ -248,7 +254,7 @@ fn size<'a>(reader: Reader<'a>, i: u32) -> Phrase<'a> {
         return Phrase::one(Piece::Words("the size 0, and a node spans itself at least"));
     }
     let parent = outline::parent(nodes, i);
-    Phrase(
+    Three(
         Piece::Number("the size ", size, ""),
         Piece::Number(", and its parent, node ", parent as i64, ""),
         Piece::count(", ends before node ", outline::end_of(nodes, parent), ""),

@@ -4,7 +4,7 @@ use layout::reader::Reader;
 use node_rules::violation::Violation;
 use nodes::kind::Kind;
 use nodes::node::Node;
-use wording::text::{Phrase, Piece, Sentence};
+use wording::text::{Phrase, Piece, Sentence, Three};
 use wording::words::MOST_NODES;
 use wording::{outline, words};
 
@@ -12,7 +12,7 @@ use wording::{outline, words};
 pub fn sentence<'a>(reader: Reader<'a>, finding: Finding<Violation>) -> Sentence<'a> {
     match finding.cause {
         Violation::TooManyCells => Sentence::one(too_many_cells(reader)),
-        cause => Sentence(
+        cause => Three(
             subject(reader, finding.place),
             position(reader, finding.place),
             Phrase::two(
@@ -27,7 +27,7 @@ pub fn sentence<'a>(reader: Reader<'a>, finding: Finding<Violation>) -> Sentence
 fn subject<'a>(reader: Reader<'a>, i: u32) -> Phrase<'a> {
     let number = Piece::Number("node ", i as i64, ", ");
     match reader.node(i as usize) {
-        Some(node) => Phrase(
+        Some(node) => Three(
             number,
             Piece::Words(words::noun(node.kind)),
             words::particulars(reader, node),
@@ -153,7 +153,7 @@ fn scope_of(reader: Reader, i: u32) -> u32 {
 
 // That the program's own variables need too many cells, and how many that is.
 fn too_many_cells<'a>(reader: Reader<'a>) -> Phrase<'a> {
-    Phrase(
+    Three(
         Piece::Words("the program's own variables need "),
         Piece::Number("", own_cells(reader), " cells"),
         Piece::Words(", and 2048 are the most"),

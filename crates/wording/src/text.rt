@@ -36,47 +36,31 @@ impl<'a> Piece<'a> {
     }
 }
 
-/// Three pieces, one after another. By default it has no word.
+/// Three texts, one after another. By default it has no word.
 #[derive(Default, Drop)]
-pub struct Phrase<'a>(pub Piece<'a>, pub Piece<'a>, pub Piece<'a>);
+pub struct Three<T>(pub T, pub T, pub T);
 
-impl fmt::Display for Phrase<'_> {
+/// Three pieces.
+pub type Phrase<'a> = Three<Piece<'a>>;
+
+/// Three phrases.
+pub type Sentence<'a> = Three<Phrase<'a>>;
+
+impl<T: fmt::Display> fmt::Display for Three<T> {
     fn fmt<W: fmt::Write>(&self, f: &mut fmt::Formatter<W>) -> fmt::Result {
         write!(f, "{}{}{}", self.0, self.1, self.2)
     }
 }
 
-impl<'a> Phrase<'a> {
-    /// A phrase of one piece.
-    pub fn one(first: Piece<'a>) -> Phrase<'a> {
-        Phrase(first, Piece::default(), Piece::default())
+impl<T: Default> Three<T> {
+    /// One text, and no more.
+    pub fn one(first: T) -> Three<T> {
+        Three(first, T::default(), T::default())
     }
 
-    /// A phrase of two pieces.
-    pub fn two(first: Piece<'a>, second: Piece<'a>) -> Phrase<'a> {
-        Phrase(first, second, Piece::default())
-    }
-}
-
-/// Three phrases, one after another.
-#[derive(Drop)]
-pub struct Sentence<'a>(pub Phrase<'a>, pub Phrase<'a>, pub Phrase<'a>);
-
-impl fmt::Display for Sentence<'_> {
-    fn fmt<W: fmt::Write>(&self, f: &mut fmt::Formatter<W>) -> fmt::Result {
-        write!(f, "{}{}{}", self.0, self.1, self.2)
-    }
-}
-
-impl<'a> Sentence<'a> {
-    /// A sentence of one phrase.
-    pub fn one(first: Phrase<'a>) -> Sentence<'a> {
-        Sentence(first, Phrase::default(), Phrase::default())
-    }
-
-    /// A sentence of two phrases.
-    pub fn two(first: Phrase<'a>, second: Phrase<'a>) -> Sentence<'a> {
-        Sentence(first, second, Phrase::default())
+    /// Two texts, and no more.
+    pub fn two(first: T, second: T) -> Three<T> {
+        Three(first, second, T::default())
     }
 }
 

@@ -1,5 +1,5 @@
 // Words for what a rule file holds: kinds, tags, names and strings.
-use crate::text::{Phrase, Piece};
+use crate::text::{Phrase, Piece, Three};
 use layout::reader::Reader;
 use nodes::bytes::byte;
 use nodes::fields::Value;
@@ -155,7 +155,7 @@ fn tag_word(kind: Kind, tag: u8) -> Option<&'static str> {
 pub fn node_words<'a>(reader: Reader<'a>, record: &[u8]) -> (&'static str, Phrase<'a>) {
     match Node::decode(record) {
         Some(node) => {
-            let details = Phrase(tag_of(node), name_of(reader, node), value_of(reader, node));
+            let details = Three(tag_of(node), name_of(reader, node), value_of(reader, node));
             (word(node.kind), details)
         }
         None => (
