@@ -1,34 +1,33 @@
--- Children one by one: how much of a node is left does not matter, if it is enough.
-use Rattle.std.proofs.Common.{◌≡◌, ℕ, zero, suc, ◌+◌, ◌-◌, ◌<◌, ◌≤◌, List, [], ◌∷◌, length, refl, ap, inl, inr, arith, le-ltb, lt-ltb}
-use Rattle.std.proofs.lemmas.Bool.{cases_lt}
-use Rattle.nodes.specs.Tree.{children, children_from}
+-- What is gathered from children, child by child and of all at once.
+use Rattle.std.proofs.Common.{◌≡◌, ℕ, ◌+◌, Bool, true, false, cond, ◌&&◌, ◌||◌, List, [], ◌∷◌, length, eqb, unwrap_or, Some, Option, refl, ap, ◌∙◌, add-one}
+use Rattle.std.specs.Prelude.{slice_get}
+use Rattle.std.specs.List.{list_all, list_any, find, sum_by}
+use Rattle.std.proofs.lemmas.List.Sums.{sum_by-cons}
 use Rattle.nodes.specs.declared.node.Node.{Node}
-use Rattle.names.specs.Walk.{Nested}
-use Rattle.node_rules.specs.Tables.{end, parts}
-use Rattle.checker.specs.Kin.{kin}
+use Rattle.node_rules.specs.Tables.{node, kind_at, any}
+use Rattle.node_rules.specs.Scopes.{cells_of, first_block}
+use Rattle.node_rules.specs.Rules.{held, with_child, cells_all}
+use Rattle.node_rules.specs.declared.types.Ty.{Ty}
+use Rattle.checker.specs.Kin.{told, told_of, is_typed}
 
-enough : (e : ℕ → ℕ) (stop m k j : ℕ) → ((i : ℕ) → i < stop → i < e i) → stop - j ≤ m → stop - j ≤ k → children_from m e j stop ≡ children_from k e j stop
-enough e stop zero zero j s a b = refl
-enough e stop zero (suc k) j s a b = rw (le-ltb j stop (omega arith)) refl
-enough e stop (suc m) zero j s a b = rw (le-ltb j stop (omega arith)) refl
-enough e stop (suc m) (suc k) j s a b =
-    elim (cases_lt j stop) [
-      | inl lt ↦ let z = s j lt in rw (lt-ltb j stop lt) (ap (λ xs. j ∷ xs) (enough e stop m k (e j) s (omega arith) (omega arith)))
-      | inr le ↦ rw (le-ltb j stop le) refl
+module _ (ns : List Node) (types : List (Option Ty)) where
+  pub held_is : (cs : List ℕ) → held ns (told types) cs ≡ record { count = length cs; first = told_of types (slice_get cs 0); second = told_of types (slice_get cs 1); typed = list_all (is_typed ns types) cs }
+  held_is [] = refl
+  held_is (c ∷ cs) = ap (with_child (node ns c).kind (told types c)) (held_is cs) ∙ ap (λ n. record { count = n; first = told types c; second = told_of types (slice_get cs 0); typed = is_typed ns types c && list_all (is_typed ns types) cs }) (add-one (length cs))
+
+-- definitions by cases, in the library's words
+pub any_is : (test : ℕ → Bool) (xs : List ℕ) → list_any test xs ≡ any test xs
+any_is test [] = refl
+any_is test (x ∷ xs) = ap (λ b. test x || b) (any_is test xs)
+
+pub block_is : (ns : List Node) (cs : List ℕ) → unwrap_or (find (λ j. eqb (kind_at ns j) 7) cs) 0 ≡ first_block ns cs
+block_is ns [] = refl
+block_is ns (c ∷ cs) =
+    elim (eqb (kind_at ns c) 7) as (λ t. unwrap_or (cond t (Some c) (find (λ j. eqb (kind_at ns j) 7) cs)) 0 ≡ cond t c (first_block ns cs)) [
+      | true ↦ refl
+      | false ↦ block_is ns cs
     ]
 
-pub kin_none : (ns : List Node) (j stop : ℕ) → stop ≤ j → kin ns j stop ≡ []
-unfolding kin
-kin_none ns j stop h = let q : stop - j ≡ 0 = omega arith in rw q refl
-
-pub kin_more : (ns : List Node) (j stop : ℕ) → Nested ns → stop ≤ length ns → j < stop → kin ns j stop ≡ j ∷ kin ns (end ns j) stop
-unfolding kin
-kin_more ns j stop n l h =
-    let s : (i : ℕ) → i < stop → i < end ns i = λ i k. n.spans.sized i (omega arith) in
-    let q : stop - j ≡ suc (stop - j - 1) = omega arith in
-    let z = s j h in
-    rw q (rw (lt-ltb j stop h) (ap (λ xs. j ∷ xs) (enough (end ns) stop (stop - j - 1) (stop - end ns j) (end ns j) s (omega arith) (omega arith))))
-
-pub kin_parts : (ns : List Node) (i : ℕ) → kin ns (i + 1) (end ns i) ≡ parts ns i
-unfolding kin children
-kin_parts ns i = refl
+pub cells_is : (ns : List Node) (ds : List ℕ) → sum_by (λ j. cells_of (node ns j)) ds ≡ cells_all ns ds
+cells_is ns [] = refl
+cells_is ns (d ∷ ds) = sum_by-cons (λ j. cells_of (node ns j)) d ds ∙ ap (λ n. cells_of (node ns d) + n) (cells_is ns ds)

@@ -1,6 +1,8 @@
 -- What an accepted rule tells of a node is so.
-use Rattle.std.proofs.Common.{◌≡◌, ℕ, ◌-◌, ◌<◌, true, cond, ◌&&◌, ltb, List, length, get_or, take, Some, None, Option, sym, refl, ap, ◌∙◌, subst, arith, lt-ltb}
+use Rattle.std.proofs.Common.{◌≡◌, ℕ, ◌<◌, true, cond, ◌&&◌, ltb, List, length, get_or, take, Some, None, Option, sym, refl, ap, ◌∙◌, subst, arith, lt-ltb}
 use Rattle.std.proofs.lemmas.List.{get_or-take}
+use Rattle.std.specs.Prelude.{Ok, ⊤}
+use Rattle.finding.specs.declared.Finding.{Finding}
 use Rattle.nodes.specs.declared.node.Node.{Node}
 use Rattle.names.specs.Walk.{vacant}
 use Rattle.names.specs.Resolved.{NamesTold}
@@ -9,8 +11,14 @@ use Rattle.node_rules.specs.Tables.{blank, nodes_of, table_of}
 use Rattle.node_rules.specs.Scopes.{body, context}
 use Rattle.node_rules.specs.Rules.{first_violation}
 use Rattle.node_rules.specs.declared.types.Ty.{Ty}
-use Rattle.checker.specs.Kin.{TypedFrom}
+use Rattle.node_rules.specs.declared.violation.Violation.{Violation}
+use Rattle.checker.specs.Kin.{TypedFrom, refused}
 use Rattle.checker.specs.Checked.{Tells, Accepted}
+
+-- nothing is refused where there is no first violation
+pub lawful : (o : Option (Finding Violation)) (u : ⊤) → refused o ≡ Ok u → o ≡ None
+lawful None u e = refl
+lawful (Some finding) u e = cc
 
 -- a table's nodes are those of the file
 long : (file : List ℕ) → length (table_of file).nodes ≡ length (nodes_of file)
@@ -18,12 +26,9 @@ unfolding table_of
 long file = refl
 
 module _ (r : Resolved) (types : List (Option Ty)) (bodies : List ℕ) (file : List ℕ) (h : NamesTold r file) (t : TypedFrom (table_of file) types 0)
-    (b : (k : ℕ) → k < length (take (r.count - 0) r.nodes) → get_or bodies k 0 ≡ body (take (r.count - 0) r.nodes) k) where
-  front : take (r.count - 0) r.nodes ≡ nodes_of file
-  front = let q : r.count - 0 ≡ r.count = omega arith in ap (λ n. take n r.nodes) q ∙ h.nodes
-
+    (b : (k : ℕ) → k < length (take r.count r.nodes) → get_or bodies k 0 ≡ body (take r.count r.nodes) k) where
   bodies_are : (k : ℕ) → k < length (nodes_of file) → get_or bodies k 0 ≡ body (nodes_of file) k
-  bodies_are = subst (λ (ns : List Node). (k : ℕ) → k < length ns → get_or bodies k 0 ≡ body ns k) front b
+  bodies_are = subst (λ (ns : List Node). (k : ℕ) → k < length ns → get_or bodies k 0 ≡ body ns k) h.nodes b
 
   tells : (i : ℕ) → i < length (nodes_of file) → Tells (record { reader = r.reader; count = r.count; nodes = r.nodes; contexts = r.contexts; types = types; bodies = bodies }) file i
   unfolding context

@@ -1,20 +1,28 @@
--- Children that are still to come, and types that are known: inner contracts of the pass over the nodes.
-use Rattle.std.specs.Prelude.{◌≡◌, ℕ, ◌-◌, ◌<◌, ◌≤◌, Bool, List, length, Some, None, Option, slice_index_or}
-use Rattle.nodes.specs.Tree.{children_from}
+-- Types that are known, and what is refused: inner contracts of the pass over the nodes.
+use Rattle.std.specs.Prelude.{◌≡◌, ℕ, ◌<◌, ◌≤◌, Bool, ◌||◌, List, length, Some, None, Ok, Err, Option, Result, ⊤, slice_index_or}
+use Rattle.finding.specs.declared.Finding.{Finding}
 use Rattle.nodes.specs.declared.node.Node.{Node}
-use Rattle.node_rules.specs.Tables.{Table, end}
+use Rattle.nodes.specs.declared.kind.Kind.TheVariants.{Text}
+use Rattle.node_rules.specs.Tables.{Table, node}
 use Rattle.node_rules.specs.Scopes.{above, scope, method_of, in_loop, meant, context}
-use Rattle.node_rules.specs.Rules.{type_of}
+use Rattle.node_rules.specs.Types.{has_type}
+use Rattle.node_rules.specs.Rules.{same_kind, type_of}
 use Rattle.node_rules.specs.declared.context.Context.{Context}
 use Rattle.node_rules.specs.declared.types.Ty.{Ty}
-
--- The children from j on, of a node that ends at stop.
-unfoldable pub kin : List Node → ℕ → ℕ → List ℕ
-kin ns j stop = children_from (stop - j) (end ns) j stop
+use Rattle.node_rules.specs.declared.violation.Violation.{Violation}
 
 -- The types that a table gives.
 abbrev pub told : List (Option Ty) → ℕ → Option Ty
 told types k = slice_index_or types k None
+
+-- The type of a node, if there is one.
+abbrev pub told_of : List (Option Ty) → Option ℕ → Option Ty
+told_of types None = None
+told_of types (Some j) = told types j
+
+-- Node j has a type, or is a string, which needs none.
+abbrev pub is_typed : List Node → List (Option Ty) → ℕ → Bool
+is_typed ns types j = same_kind (node ns j).kind Text || has_type (told types j)
 
 abbrev pub table : List Node → Bool → Table
 table ns main = record { nodes = ns; main = main }
@@ -34,3 +42,8 @@ pub record Placed (ns : List Node) (i : ℕ) (c : Context) : Type 0 where
   pub parent_inside : c.parent < length ns
   pub method_inside : c.method < length ns
   pub means_inside : (d : ℕ) → c.means ≡ Some d → d < length ns
+
+-- What is answered where a first violation is looked for.
+abbrev pub refused : Option (Finding Violation) → Result ⊤ (Finding Violation)
+refused None = Ok tt
+refused (Some finding) = Err finding

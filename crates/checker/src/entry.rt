@@ -1,58 +1,36 @@
 // Whether a rule has a method to begin with: a void method main without parameters.
-ghost use Rattle.std.specs.Prelude.{◌≡◌, ◌+◌, ◌<◌, ◌≤◌, not, length, codes, ◌==◌};
+ghost use Rattle.std.specs.Prelude.{◌≡◌, codes};
 ghost use Rattle.layout.specs.Items.{names, text_at};
 ghost use Rattle.layout.specs.Readers.{file_of};
-ghost use Rattle.names.specs.Walk.{Nested};
-ghost use Rattle.node_rules.specs.Tables.{kind_at, any, spells, is_main};
-ghost use Rattle.checker.specs.Kin.{kin};
+ghost use Rattle.node_rules.specs.Tables.{spells, is_main, has_main};
 
-use crate::kin::end_of;
 use layout::reader::Reader;
-use node_rules::judge::is_kind;
+use names::nested::Nodes;
 use nodes::kind::Kind;
-use nodes::node::Node;
-use texts::spelling::same;
 
 // Whether the name of this number is main.
 fn is_called_main(reader: &Reader, name: u8) -> bool
     ensures { result ≡ spells (codes "main") (text_at (names (file_of reader.now)) name) }
 {
-    match reader.name(name as u32) {
-        Some(text) => same(text, b"main"),
-        None => false,
-    }
+    reader
+        .name(name as u32)
+        .is_some_and(|text| text == b"main".as_slice())
 }
 
-// Whether what follows node m is no parameter.
-fn is_without_parameters(nodes: &[Node], m: usize) -> bool
-    requires { m < length nodes.now }
-    ensures { result ≡ not (kind_at nodes.now (m + 1) == 6) }
+// Whether node m is a void method main without parameters: these would follow it.
+fn is_main(reader: &Reader, nodes: Nodes<'_>, m: usize) -> bool
+    ensures { result ≡ is_main nodes.entry.list.now (names (file_of reader.now)) m }
 {
-    if m + 1 >= nodes.len() {
-        return true;
-    }
-    !is_kind(nodes[m + 1].kind, Kind::Parameter)
-}
-
-// Whether node m is a void method main without parameters.
-fn is_main(reader: &Reader, nodes: &[Node], m: usize) -> bool
-    requires { m < length nodes.now }
-    ensures { result ≡ is_main nodes.now (names (file_of reader.now)) m }
-{
-    let node = nodes[m];
-    is_kind(node.kind, Kind::Method)
+    let node = nodes.node(m);
+    node.kind == Kind::Method
         && node.tag == 0
-        && is_without_parameters(nodes, m)
+        && nodes.node(m.saturating_add(1)).kind != Kind::Parameter
         && is_called_main(reader, node.name)
 }
 
-/// Whether one is among the children from j on.
-pub(crate) fn has_main(reader: &Reader, nodes: &[Node], j: usize, stop: usize) -> bool
-    requires { (Nested nodes.now) × (stop ≤ length nodes.now) }
-    ensures { result ≡ any (is_main nodes.now (names (file_of reader.now))) (kin nodes.now j stop) }
+/// Whether one is among the program's children.
+pub(crate) fn has_main(reader: &Reader, nodes: Nodes<'_>) -> bool
+    ensures { result ≡ has_main nodes.entry.list.now (names (file_of reader.now)) }
 {
-    if j >= stop {
-        return false;
-    }
-    is_main(reader, nodes, j) || has_main(reader, nodes, end_of(nodes, j), stop)
+    nodes.children(0).any(|m| is_main(reader, nodes, m))
 }

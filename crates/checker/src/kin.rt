@@ -1,38 +1,64 @@
-// What is gathered from the children of a node, from the last one up.
-ghost use Rattle.std.specs.Prelude.{◌≡◌, ◌-◌, ◌*◌, ◌<◌, ◌≤◌, length};
-ghost use Rattle.names.specs.Walk.{Nested};
-ghost use Rattle.node_rules.specs.Tables.{end};
-ghost use Rattle.node_rules.specs.Scopes.{first_block};
-ghost use Rattle.node_rules.specs.Rules.{with_child, held, takes, matches, cells_all};
-ghost use Rattle.checker.specs.Kin.{kin, told};
+// What is gathered from the children of a node.
+ghost use Rattle.std.specs.Prelude.{◌≡◌, length, slice_get};
+ghost use Rattle.std.specs.List.{list_all};
+ghost use Rattle.node_rules.specs.Tables.{node, parts};
+ghost use Rattle.node_rules.specs.Scopes.{first_block, body};
+ghost use Rattle.node_rules.specs.Types.{has_type};
+ghost use Rattle.node_rules.specs.Rules.{same_kind, held, takes, matches, field_cells};
+ghost use Rattle.checker.specs.Kin.{told, told_of, is_typed};
 
+use names::nested::Nodes;
 use node_rules::cells::cells_of;
 use node_rules::facts::Held;
-use node_rules::judge::is_kind;
 use node_rules::types::{Ty, is_asked, type_of_tag};
 use nodes::kind::Kind;
 use nodes::node::Node;
 
-/// One past the last node that node i spans.
-pub(crate) fn end_of(nodes: &[Node], i: usize) -> usize
-    requires { (Nested nodes.now) × (i < length nodes.now) }
-    ensures value { result ≡ end nodes.now i }
-    ensures within { result ≤ length nodes.now }
-    ensures past { i < result }
+// The type of node j, as far as it is told.
+fn told(types: &[Option<Ty>], j: usize) -> Option<Ty>
+    ensures { result ≡ told types.now j }
 {
-    i + nodes[i].size as usize
+    *types.get(j)?
 }
 
-// A child, and those after it.
-fn put_before(kind: Kind, ty: Option<Ty>, later: Held) -> Held
-    requires { later.count < 1024 }
-    ensures { result ≡ with_child kind ty later }
+// The type of the child of node i that has k others before it.
+fn type_of_child(nodes: Nodes<'_>, types: &[Option<Ty>], i: usize, k: usize) -> Option<Ty>
+    ensures { result ≡ told_of types.now (slice_get (parts nodes.entry.list.now i) k) }
+{
+    told(types, nodes.children(i).nth(k)?)
+}
+
+// Whether node j has a type, or is a string, which needs none.
+fn is_typed(nodes: Nodes<'_>, types: &[Option<Ty>], j: usize) -> bool
+    ensures { result ≡ is_typed nodes.entry.list.now types.now j }
+{
+    nodes.node(j).kind == Kind::Text || told(types, j).is_some()
+}
+
+// Whether each child of node i is.
+fn are_typed(nodes: Nodes<'_>, types: &[Option<Ty>], i: usize) -> bool
+    ensures { result ≡ list_all (is_typed nodes.entry.list.now types.now) (parts nodes.entry.list.now i) }
+{
+    nodes.children(i).all(|j| is_typed(nodes, types, j))
+}
+
+// How many children node i has.
+fn count_children(nodes: Nodes<'_>, i: usize) -> usize
+    ensures { result ≡ length (parts nodes.entry.list.now i) }
+{
+    nodes.children(i).count()
+}
+
+/// How many children node i has, the types of the first two, and whether each expression among them has one.
+#[tactic(auto, using(crate::proofs::Kinship::held_is))]
+pub(crate) fn gather(nodes: Nodes<'_>, types: &[Option<Ty>], i: usize) -> Held
+    ensures { result ≡ held nodes.entry.list.now (told types.now) (parts nodes.entry.list.now i) }
 {
     Held {
-        count: later.count + 1,
-        first: ty,
-        second: later.first,
-        typed: (is_kind(kind, Kind::Text) || ty.is_some()) && later.typed,
+        count: count_children(nodes, i),
+        first: type_of_child(nodes, types, i, 0),
+        second: type_of_child(nodes, types, i, 1),
+        typed: are_typed(nodes, types, i),
     }
 }
 
@@ -40,73 +66,55 @@ fn put_before(kind: Kind, ty: Option<Ty>, later: Held) -> Held
 fn does_take(parameter: Node, ty: Option<Ty>) -> bool
     ensures { result ≡ takes parameter ty }
 {
-    is_kind(parameter.kind, Kind::Parameter) && is_asked(type_of_tag(parameter.tag), ty)
+    parameter.kind == Kind::Parameter && is_asked(type_of_tag(parameter.tag), ty)
 }
 
-/// How many children there are from j on, the types of the first two, and whether each expression among them has one.
-pub(crate) fn gather(nodes: &[Node], types: &[Option<Ty>], j: usize, stop: usize) -> Held
-    requires { (Nested nodes.now) × ((stop ≤ length nodes.now) × (length nodes.now ≤ length types.now)) }
-    ensures value { result ≡ held nodes.now (told types.now) (kin nodes.now j stop) }
-    ensures bound { result.count ≤ stop - j }
+/// Whether the children of the method m and the call i match: each argument fits a parameter, and none is left over.
+pub(crate) fn do_match(nodes: Nodes<'_>, types: &[Option<Ty>], m: usize, i: usize) -> bool
+    ensures { result ≡ matches nodes.entry.list.now (told types.now) (parts nodes.entry.list.now m) (parts nodes.entry.list.now i) }
 {
-    if j >= stop {
-        return Held {
-            count: 0,
-            first: None,
-            second: None,
-            typed: true,
+    let mut parameters = nodes.children(m);
+    for j in nodes.children(i) {
+        let Some(p) = parameters.next() else {
+            return false;
         };
+        if !does_take(nodes.node(p), told(types, j)) {
+            return false;
+        }
     }
-    let later = gather(nodes, types, end_of(nodes, j), stop);
-    put_before(nodes[j].kind, types[j], later)
+    let Some(p) = parameters.next() else {
+        return true;
+    };
+    nodes.node(p).kind != Kind::Parameter
 }
 
-/// Whether a method's children from p on and a call's from j on match: each argument fits a parameter, and none is left over.
-pub(crate) fn do_match(
-    nodes: &[Node],
-    types: &[Option<Ty>],
-    p: usize,
-    last: usize,
-    j: usize,
-    stop: usize,
-) -> bool
-    requires { (Nested nodes.now) × ((last ≤ length nodes.now) × ((stop ≤ length nodes.now) × (length nodes.now ≤ length types.now))) }
-    ensures { result ≡ matches nodes.now (told types.now) (kin nodes.now p last) (kin nodes.now j stop) }
+/// The cells of the program's own variables.
+pub(crate) fn sum_cells(nodes: Nodes<'_>) -> u64
+    ensures { result ≡ field_cells nodes.entry.list.now }
 {
-    if p >= last {
-        return j >= stop;
-    }
-    if j >= stop {
-        return !is_kind(nodes[p].kind, Kind::Parameter);
-    }
-    does_take(nodes[p], types[j])
-        && do_match(nodes, types, end_of(nodes, p), last, end_of(nodes, j), stop)
+    nodes
+        .children(0)
+        .map(|j| cells_of(nodes.node(j)) as u64)
+        .sum()
 }
 
-/// The cells of the variables among the children from j on.
-pub(crate) fn sum_cells(nodes: &[Node], j: usize, stop: usize) -> u64
-    requires { (Nested nodes.now) × (stop ≤ length nodes.now) }
-    ensures value { result ≡ cells_all nodes.now (kin nodes.now j stop) }
-    ensures bound { result ≤ 4294967295 * (stop - j) }
+// The first block among the children of node i, or 0.
+fn find_block(nodes: Nodes<'_>, i: usize) -> usize
+    ensures { result ≡ first_block nodes.entry.list.now (parts nodes.entry.list.now i) }
 {
-    if j >= stop {
-        return 0;
-    }
-    let rest = sum_cells(nodes, end_of(nodes, j), stop);
-    cells_of(nodes[j]) as u64 + rest
+    nodes
+        .children(i)
+        .find(|j| nodes.node(*j).kind == Kind::Block)
+        .unwrap_or(0)
 }
 
-/// The first block among the children from j on, or 0.
-pub(crate) fn find_block(nodes: &[Node], j: usize, stop: usize) -> usize
-    requires { (Nested nodes.now) × (stop ≤ length nodes.now) }
-    ensures { result ≡ first_block nodes.now (kin nodes.now j stop) }
+/// The body block of node i, where it is a method; else 0.
+pub(crate) fn body_of(nodes: Nodes<'_>, i: usize) -> usize
+    ensures { result ≡ body nodes.entry.list.now i }
 {
-    if j >= stop {
-        return 0;
-    }
-    if is_kind(nodes[j].kind, Kind::Block) {
-        j
+    if nodes.node(i).kind == Kind::Method {
+        find_block(nodes, i)
     } else {
-        find_block(nodes, end_of(nodes, j), stop)
+        0
     }
 }

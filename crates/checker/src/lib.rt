@@ -6,26 +6,24 @@
 // type, a variable's place among the cells, and a method's body block. What acceptance gives of every node is said in `rule_laws`.
 #![tactic(auto)]
 
-ghost use Rattle.std.specs.Prelude.{◌≡◌, length};
+ghost use Rattle.std.specs.Prelude.{◌≡◌};
 ghost use Rattle.layout.specs.Readers.{file_of};
 ghost use Rattle.names.specs.Resolved.{NamesTold};
-ghost use Rattle.names.specs.Walk.{Nested, Known};
 ghost use Rattle.node_rules.specs.Tables.{nodes_of, table_of};
 ghost use Rattle.node_rules.specs.Rules.{first_violation};
-ghost use Rattle.checker.specs.Kin.{TypedFrom};
+ghost use Rattle.checker.specs.Kin.{TypedFrom, refused};
 ghost use Rattle.checker.specs.Checked.{Judging, Checking};
+ghost use Rattle.checker.specs.declared.Refusal.TheVariants as refusal;
 
 use entry::has_main;
 use finding::Finding;
-use kin::end_of;
 use layout::fault::FileFault;
 use layout::reader::Reader;
+use names::nested::Nodes;
 use names::{MOST_NODES, Resolved, resolve};
-use node_rules::context::Context;
 use node_rules::types::Ty;
 use node_rules::violation::Violation;
-use nodes::node::Node;
-use pass::{find_bodies, find_violation};
+use pass::{Resolution, find_bodies};
 use rule::Rule;
 
 mod entry;
@@ -39,20 +37,35 @@ pub enum Refusal {
     Violation(Finding<Violation>),
 }
 
-// The first violation of a file's nodes; on the way the types of all nodes are written down.
+impl From<Finding<FileFault>> for Refusal {
+    ghost from_gives = { λ fault refused. refused ≡ refusal.Fault fault };
+
+    fn from(fault: Finding<FileFault>) -> Refusal {
+        Refusal::Fault(fault)
+    }
+}
+
+impl From<Finding<Violation>> for Refusal {
+    ghost from_gives = { λ violation refused. refused ≡ refusal.Violation violation };
+
+    fn from(violation: Finding<Violation>) -> Refusal {
+        Refusal::Violation(violation)
+    }
+}
+
+// Refused at the first violation of a file's nodes; on the way the types of all nodes are written down.
+#[tactic(auto, unfolding(node_rules::specs::Tables::table_of))]
 fn study(
     reader: &Reader,
-    nodes: &[Node],
-    contexts: &[Context],
-    types: &mut [Option<Ty>],
-) -> Option<Finding<Violation>>
-    requires known { (Nested nodes.now) × ((Known nodes.now contexts.now (length nodes.now)) × ((length contexts.now ≡ 1024) × (length types.old ≡ 1024))) }
-    requires nodes { nodes.now ≡ nodes_of (file_of reader.now) }
-    ensures first { result ≡ first_violation (table_of (file_of reader.now)) }
+    resolution: Resolution<'_>,
+    types: &mut [Option<Ty>; MOST_NODES],
+) -> Result<(), Finding<Violation>>
+    requires { resolution.nodes.list.now ≡ nodes_of (file_of reader.now) }
+    ensures first { result ≡ refused (first_violation (table_of (file_of reader.now))) }
     ensures types { TypedFrom (table_of (file_of reader.now)) types.new 0 }
 {
-    let main = has_main(reader, nodes, 1, end_of(nodes, 0));
-    find_violation(nodes, contexts, main, types)
+    let main = has_main(reader, resolution.nodes);
+    resolution.check(main, types)
 }
 
 // The rule that a file's nodes are, or their first violation.
@@ -66,11 +79,15 @@ fn judge<'f>(resolved: Resolved<'f>) -> Result<Rule<'f>, Finding<Violation>>
         nodes,
         contexts,
     } = resolved;
+    let resolution = Resolution {
+        nodes: Nodes {
+            list: &nodes[..count],
+        },
+        contexts: &contexts,
+    };
     let mut types = [None; MOST_NODES];
-    if let Some(violation) = study(&reader, &nodes[0..count], &contexts, &mut types) {
-        return Err(violation);
-    }
-    let bodies = find_bodies(&nodes[0..count]);
+    study(&reader, resolution, &mut types)?;
+    let bodies = find_bodies(resolution.nodes);
     Ok(Rule {
         reader,
         count,
@@ -85,11 +102,5 @@ fn judge<'f>(resolved: Resolved<'f>) -> Result<Rule<'f>, Finding<Violation>>
 pub fn check(file: &[u8]) -> Result<Rule<'_>, Refusal>
     ensures { Checking result file.now }
 {
-    match resolve(file) {
-        Err(fault) => Err(Refusal::Fault(fault)),
-        Ok(resolved) => match judge(resolved) {
-            Err(violation) => Err(Refusal::Violation(violation)),
-            Ok(rule) => Ok(rule),
-        },
-    }
+    Ok(judge(resolve(file)?)?)
 }

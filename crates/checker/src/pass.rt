@@ -1,103 +1,52 @@
 // The pass over the nodes, from the last to the first: facts, the lowest broken rule of each node, and types.
-ghost use Rattle.std.specs.Prelude.{◌≡◌, ℕ, ◌+◌, ◌<◌, ◌≤◌, length, Some, slice_index};
-ghost use Rattle.names.specs.Walk.{Nested, Known};
+ghost use Rattle.std.specs.Prelude.{◌≡◌, ℕ, ◌<◌, ◌≤◌, length, None, slice_index};
+ghost use Rattle.names.specs.Walk.{Known};
 ghost use Rattle.node_rules.specs.Tables.{parts};
 ghost use Rattle.node_rules.specs.Scopes.{repeated, body};
 ghost use Rattle.node_rules.specs.Rules.{declared, matching, facts, found, first_from, or_cells, first_violation};
-ghost use Rattle.checker.specs.Kin.{told, table, TypedFrom, Placed};
+ghost use Rattle.checker.specs.Kin.{told, table, TypedFrom, Placed, refused};
 
-use crate::kin::{do_match, end_of, find_block, gather, sum_cells};
+use crate::kin::{body_of, do_match, gather, sum_cells};
 use finding::Finding;
 use names::MOST_NODES;
+use names::nested::Nodes;
 use node_rules::context::Context;
 use node_rules::facts::{Declared, Facts};
-use node_rules::judge::is_kind;
 use node_rules::types::{Ty, type_of_tag};
 use node_rules::violation::Violation;
-use nodes::kind::Kind;
-use nodes::node::Node;
+use std::array;
 
 /// The most cells that the program's own variables may need.
 const MOST_CELLS: u64 = 2048;
 
+/// The nodes of a rule, and the context of each.
+#[derive(Clone, Copy)]
+pub(crate) struct Resolution<'n> {
+    pub nodes: Nodes<'n>,
+    pub contexts: &'n [Context],
+    pub ghost known: { Known nodes.list.now contexts.now (length nodes.list.now) },
+    pub ghost room: { length nodes.list.now ≤ length contexts.now },
+}
+
 // What a declaration is, for the nodes that mean it.
-fn declared_at(nodes: &[Node], means: Option<usize>) -> Option<Declared>
-    requires { (d : ℕ) → means ≡ Some d → d < length nodes.now }
-    ensures { result ≡ declared nodes.now means }
+fn declared_at(nodes: Nodes<'_>, means: Option<usize>) -> Option<Declared>
+    ensures { result ≡ declared nodes.entry.list.now means }
 {
-    let d = means?;
-    let node = nodes[d];
+    let node = nodes.node(means?);
     Some(Declared {
         kind: node.kind,
         ty: type_of_tag(node.tag),
     })
 }
 
-// The context of node i.
-fn context_at(nodes: &[Node], contexts: &[Context], i: usize) -> Context
-    requires { (Nested nodes.now) × ((Known nodes.now contexts.now (length nodes.now)) × ((length contexts.now ≡ 1024) × (i < length nodes.now))) }
-    ensures { Placed nodes.now i result }
-{
-    contexts[i]
-}
-
-// Whether the scope of the declaration i has its name already.
-fn is_repeated(nodes: &[Node], contexts: &[Context], i: usize) -> bool
-    requires { (Nested nodes.now) × ((Known nodes.now contexts.now (length nodes.now)) × ((length contexts.now ≡ 1024) × (i < length nodes.now))) }
-    ensures { result ≡ repeated nodes.now i }
-{
-    let context = context_at(nodes, contexts, i);
-    match context.means {
-        Some(d) => context_at(nodes, contexts, d).scope == context.scope,
-        None => false,
-    }
-}
-
 // Whether the arguments of node i match the parameters of the method that it means.
-fn is_matching(nodes: &[Node], types: &[Option<Ty>], i: usize, means: Option<usize>) -> bool
-    requires { (Nested nodes.now) × ((i < length nodes.now) × ((length nodes.now ≤ length types.now) × (((d : ℕ) → means ≡ Some d → d < length nodes.now)))) }
-    ensures { result ≡ matching nodes.now (told types.now) (parts nodes.now i) means }
+fn is_matching(nodes: Nodes<'_>, types: &[Option<Ty>], i: usize, means: Option<usize>) -> bool
+    ensures { result ≡ matching nodes.entry.list.now (told types.now) (parts nodes.entry.list.now i) means }
 {
-    match means {
-        Some(d) => do_match(
-            nodes,
-            types,
-            d + 1,
-            end_of(nodes, d),
-            i + 1,
-            end_of(nodes, i),
-        ),
-        None => true,
-    }
-}
-
-// What the rules look at, of node i.
-fn facts_at(
-    nodes: &[Node],
-    contexts: &[Context],
-    types: &[Option<Ty>],
-    main: bool,
-    i: usize,
-) -> Facts
-    requires nested { (Nested nodes.now) × (i < length nodes.now) }
-    requires known { (Known nodes.now contexts.now (length nodes.now)) × ((length contexts.now ≡ 1024) × (length types.now ≡ 1024)) }
-    ensures { result ≡ facts (table nodes.now main) (told types.now) i }
-{
-    let node = nodes[i];
-    let context = context_at(nodes, contexts, i);
-    let parent = context_at(nodes, contexts, context.parent);
-    Facts {
-        node,
-        repeats: is_repeated(nodes, contexts, i),
-        main,
-        means: declared_at(nodes, context.means),
-        held: gather(nodes, types, i + 1, end_of(nodes, i)),
-        matching: is_matching(nodes, types, i, context.means),
-        parent: nodes[context.parent].kind,
-        callee: declared_at(nodes, parent.means),
-        result: type_of_tag(nodes[context.method].tag),
-        looped: context.looped,
-    }
+    let Some(m) = means else {
+        return true;
+    };
+    do_match(nodes, types, m, i)
 }
 
 // What was found at node i, before what was found later.
@@ -109,82 +58,101 @@ fn earlier(
     requires { i < 1024 }
     ensures { result ≡ found i broken later }
 {
-    match broken {
-        Some(rule) => Some(Finding::new(i as u32, rule)),
-        None => later,
+    broken.map(|rule| Finding::new(i as u32, rule)).or(later)
+}
+
+impl Resolution<'_> {
+    // The context of node i.
+    fn context(self, i: usize) -> Context
+        requires { i < length self.nodes.list.now }
+        ensures { Placed self.entry.nodes.list.now i result }
+    {
+        self.contexts[i]
+    }
+
+    // Whether the scope of the declaration i has its name already.
+    fn is_repeated(self, i: usize) -> bool
+        requires { i < length self.nodes.list.now }
+        ensures { result ≡ repeated self.entry.nodes.list.now i }
+    {
+        let context = self.context(i);
+        let Some(d) = context.means else {
+            return false;
+        };
+        self.context(d).scope == context.scope
+    }
+
+    // What the rules look at, of node i.
+    fn facts(self, types: &[Option<Ty>], main: bool, i: usize) -> Facts
+        requires { i < length self.nodes.list.now }
+        ensures { result ≡ facts (table self.entry.nodes.list.now main) (told types.now) i }
+    {
+        let nodes = self.nodes;
+        let context = self.context(i);
+        let parent = self.context(context.parent);
+        Facts {
+            node: nodes.node(i),
+            repeats: self.is_repeated(i),
+            main,
+            means: declared_at(nodes, context.means),
+            held: gather(nodes, types, i),
+            matching: is_matching(nodes, types, i, context.means),
+            parent: nodes.node(context.parent).kind,
+            callee: declared_at(nodes, parent.means),
+            result: type_of_tag(nodes.node(context.method).tag),
+            looped: context.looped,
+        }
+    }
+
+    // The first broken rule of all nodes; on the way the types of all nodes are written down.
+    fn first_broken(
+        self,
+        main: bool,
+        types: &mut [Option<Ty>; MOST_NODES],
+    ) -> Option<Finding<Violation>>
+        ensures first { result ≡ first_from (table self.entry.nodes.list.now main) 0 (length self.entry.nodes.list.now) }
+        ensures types { TypedFrom (table self.entry.nodes.list.now main) types.new 0 }
+    {
+        let mut first = None;
+        for i in (0..self.nodes.list.len()).rev() {
+            let facts = self.facts(types, main, i);
+            let broken = facts.first_broken();
+            types[i] = facts.type_unless(broken);
+            first = earlier(i, broken, first);
+        }
+        first
+    }
+
+    /// Refused at the first violation; on the way the types of all nodes are written down.
+    #[tactic(auto, unfolding(node_rules::specs::Rules::first_violation))]
+    pub(crate) fn check(
+        self,
+        main: bool,
+        types: &mut [Option<Ty>; MOST_NODES],
+    ) -> Result<(), Finding<Violation>>
+        ensures first { result ≡ refused (first_violation (table self.entry.nodes.list.now main)) }
+        ensures types { TypedFrom (table self.entry.nodes.list.now main) types.new 0 }
+    {
+        match self.first_broken(main, types) {
+            Some(finding) => Err(finding),
+            None => check_cells(sum_cells(self.nodes)),
+        }
     }
 }
 
-// The first broken rule of all nodes; on the way the types of all nodes are written down.
-fn first_broken(
-    nodes: &[Node],
-    contexts: &[Context],
-    main: bool,
-    types: &mut [Option<Ty>],
-) -> Option<Finding<Violation>>
-    requires { (Nested nodes.now) × ((Known nodes.now contexts.now (length nodes.now)) × ((length contexts.now ≡ 1024) × (length types.old ≡ 1024))) }
-    ensures first { result ≡ first_from (table nodes.now main) 0 (length nodes.now) }
-    ensures types { TypedFrom (table nodes.now main) types.new 0 }
+// Refused where the program's own variables need too many cells.
+fn check_cells(cells: u64) -> Result<(), Finding<Violation>>
+    ensures { result ≡ refused (or_cells cells None) }
 {
-    let mut first: Option<Finding<Violation>> = None;
-    let mut i = nodes.len();
-    while i > 0 {
-        i -= 1;
-        let facts = facts_at(nodes, contexts, types, main, i);
-        let broken = facts.first_broken();
-        types[i] = facts.type_unless(broken);
-        first = earlier(i, broken, first);
+    if cells > MOST_CELLS {
+        return Err(Finding::new(0, Violation::TooManyCells));
     }
-    first
-}
-
-// What was found, or that there are too many cells.
-fn or_cells(cells: u64, rule: Option<Finding<Violation>>) -> Option<Finding<Violation>>
-    ensures { result ≡ or_cells cells rule }
-{
-    match rule {
-        Some(finding) => Some(finding),
-        None if cells > MOST_CELLS => Some(Finding::new(0, Violation::TooManyCells)),
-        None => None,
-    }
-}
-
-/// The first violation; on the way the types of all nodes are written down.
-pub(crate) fn find_violation(
-    nodes: &[Node],
-    contexts: &[Context],
-    main: bool,
-    types: &mut [Option<Ty>],
-) -> Option<Finding<Violation>>
-    requires { (Nested nodes.now) × ((Known nodes.now contexts.now (length nodes.now)) × ((length contexts.now ≡ 1024) × (length types.old ≡ 1024))) }
-    ensures first { result ≡ first_violation (table nodes.now main) }
-    ensures types { TypedFrom (table nodes.now main) types.new 0 }
-{
-    let found = first_broken(nodes, contexts, main, types);
-    let cells = sum_cells(nodes, 1, end_of(nodes, 0));
-    or_cells(cells, found)
-}
-
-// The body block of node i, where it is a method.
-fn body_at(nodes: &[Node], i: usize) -> usize
-    requires { (Nested nodes.now) × (i < length nodes.now) }
-    ensures { result ≡ body nodes.now i }
-{
-    if is_kind(nodes[i].kind, Kind::Method) {
-        find_block(nodes, i + 1, end_of(nodes, i))
-    } else {
-        0
-    }
+    Ok(())
 }
 
 /// The body blocks of all methods.
-pub(crate) fn find_bodies(nodes: &[Node]) -> [usize; MOST_NODES]
-    requires { Nested nodes.now }
-    ensures { (k : ℕ) → k < length nodes.now → slice_index result k ≡ body nodes.now k }
+pub(crate) fn find_bodies(nodes: Nodes<'_>) -> [usize; MOST_NODES]
+    ensures { (k : ℕ) → k < length nodes.entry.list.now → slice_index result k ≡ body nodes.entry.list.now k }
 {
-    let mut bodies = [0; MOST_NODES];
-    for i in 0..nodes.len() {
-        bodies[i] = body_at(nodes, i);
-    }
-    bodies
+    array::from_fn(|i| body_of(nodes, i))
 }

@@ -1,5 +1,6 @@
 pub mod Kinship
 pub mod Made
+pub mod Yielding
 pub mod Nesting
 pub mod Contexts
 pub mod Walking

@@ -1,11 +1,8 @@
 use Rattle.std.proofs.Common.{sym, ◌∙◌}
 use Rattle.layout.specs.Readers.{file_of}
-use Rattle.checker.proofs.Telling.{accepted}
+use Rattle.checker.proofs.Telling.{accepted, lawful}
 use Rattle.checker.proofs.judge.Goals as goal
-
-pub returns-in-Some : goal.returns-in-Some
-returns-in-Some c = sym c.study.ensures.first ∙ c.in-Some.is
 
 pub returns : goal.returns
 returns c =
-    accepted c.args.resolved _ _ (file_of c.args.resolved.reader) c.requires c.study.ensures.types c.find_bodies-bodies.ensures (sym c.study.ensures.first ∙ c.in_default.is)
+    accepted c.args.resolved _ _ (file_of c.args.resolved.reader) c.requires c.study.ensures.types c.find_bodies-bodies.ensures (lawful _ _ (sym c.study.ensures.first ∙ c.in_ok-study.was))
