@@ -28,13 +28,6 @@ impl<'a> Items<'a> {
         }
     }
 
-    /// The next item, with its length byte.
-    pub fn next_item(&mut self) -> Option<&'a [u8]>
-        ensures { Stepped result (pending self.old) (pending self.new) }
-    {
-        self.next()
-    }
-
     /// How many items are to come.
     #[tactic(auto, using(crate::proofs::Splitting::items_few))]
     pub fn count(self) -> u32

@@ -1,5 +1,5 @@
 -- The walk from node to node: what is known at one gives what is known at the next.
-use Rattle.std.proofs.Common.{◌≡◌, ℕ, zero, suc, ◌+◌, ◌<◌, ◌≤◌, Bool, true, false, cond, List, [], ◌∷◌, ◌++◌, length, get_or, take, set, replicate, sym, refl, ap, ◌∙◌, subst, append-nil, inl, inr, arith}
+use Rattle.std.proofs.Common.{◌≡◌, ℕ, zero, suc, ◌+◌, ◌<◌, ◌≤◌, Bool, true, false, cond, Ok, Err, Result, List, [], ◌∷◌, ◌++◌, length, get_or, take, set, replicate, sym, refl, ap, ◌∙◌, subst, append-nil, inl, inr, arith}
 use lib.ListN.{length-replicate}
 use lib.Seq.{take-append-le}
 use Rattle.std.proofs.lemmas.List.{take-take, length-take-le, length-set}
@@ -11,6 +11,7 @@ use Rattle.node_rules.specs.Scopes.{declares, binding, in_force, context}
 use Rattle.node_rules.specs.declared.binding.Binding.{Binding}
 use Rattle.node_rules.specs.declared.context.Context.{Context}
 use Rattle.stack.specs.Stacks.{Pushed}
+use Rattle.stack.specs.declared.Full.{Full}
 use Rattle.names.specs.Walk.{Nested, Child, kin, Known, vacant, own, Ready, Entered, Walked}
 use Rattle.names.proofs.Kinship.{kin_none, kin_more, kin_parts}
 use Rattle.names.proofs.Nesting.{child_first, child_next, in_force_next, in_force_first, in_force_program}
@@ -54,11 +55,11 @@ module _ (ns : List Node) (n : Nested ns) (bs : List Binding) (cs : List Context
       }
 
 -- where there is room, a push is taken
-pushed : {X : Type 0} (taken : Bool) (xs : List X) (used : ℕ) (x : X) (ys : List X) (used' : ℕ) → used < length xs → Pushed taken xs used x ys used' → Pushed true xs used x ys used'
-pushed true xs used x ys used' l h = h
-pushed false xs used x ys used' l h = absurd (let m = h.0 in omega arith)
+pushed : {X : Type 0} (taken : Result Unit Full) (xs : List X) (used : ℕ) (x : X) (ys : List X) (used' : ℕ) → used < length xs → Pushed taken xs used x ys used' → Pushed (Ok tt) xs used x ys used'
+pushed (Ok _) xs used x ys used' l h = h
+pushed (Err _) xs used x ys used' l h = absurd (let m = h.0 in omega arith)
 
-pub pushed_own : (ns : List Node) → Nested ns → (bs bs₁ : List Binding) (cs : List Context) (used i : ℕ) (taken : Bool) (b : Binding) (bs' : List Binding) (used' : ℕ) → i < length ns → Ready ns bs cs used i → bs₁ ≡ bs → b ≡ binding ns i → Pushed taken bs₁ used b bs' used' → Pushed true bs used (binding ns i) bs' used'
+pub pushed_own : (ns : List Node) → Nested ns → (bs bs₁ : List Binding) (cs : List Context) (used i : ℕ) (taken : Result Unit Full) (b : Binding) (bs' : List Binding) (used' : ℕ) → i < length ns → Ready ns bs cs used i → bs₁ ≡ bs → b ≡ binding ns i → Pushed taken bs₁ used b bs' used' → Pushed (Ok tt) bs used (binding ns i) bs' used'
 pushed_own ns n bs bs₁ cs used i taken b bs' used' inside r q e h =
     let few = n.few in
     let room = r.room.0 in

@@ -121,7 +121,7 @@ fn declaration(at: Place<'_>, names: &mut Names, count: &mut Count)
     ensures { Walked at.entry.nodes.list.now (end at.entry.nodes.list.now at.entry.i) (own at.entry.nodes.list.now at.entry.i) names.old.bindings count.old.used names.new.bindings names.new.contexts count.new.used }
 {
     let binding = declare(at, names, count.used);
-    push(&mut names.bindings, &mut count.used, binding);
+    push(&mut names.bindings, &mut count.used, binding).unwrap();
     children(at.nodes, at.i, names, count);
 }
 

@@ -53,13 +53,6 @@ enum Operation {
     Logic,
 }
 
-/// Whether two kinds are one, which `==` says too.
-pub fn is_kind(a: Kind, b: Kind) -> bool
-    ensures { result ≡ same_kind a b }
-{
-    a == b
-}
-
 // What a name means. Where a kind of declaration is asked for, a name that is not declared counts as one that fits.
 
 fn is_scalar(means: Option<Declared>) -> bool

@@ -92,20 +92,6 @@ impl fmt::Display for UnknownKind {
 impl Error for UnknownKind {}
 
 impl Kind {
-    /// The kind's number.
-    pub fn number(self) -> u8
-        ensures { result ≡ number self }
-    {
-        u8::from(self)
-    }
-
-    /// The kind that has the number, if there is one.
-    pub fn from_number(number: u8) -> Option<Kind>
-        ensures { result ≡ kind_of number }
-    {
-        Kind::try_from(number).ok()
-    }
-
     /// Whether it brings a name into force: an import, a variable, a method or a parameter.
     pub fn declares_name(self) -> bool
         ensures { result ≡ between 2 6 (number self) }

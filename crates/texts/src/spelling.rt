@@ -33,13 +33,6 @@ pub fn is_string_text(text: &[u8]) -> bool
         .all(|b| matches!(b, 32..=126 | 9..=10 | 12..=13))
 }
 
-/// Whether two rows of bytes are the same.
-pub fn same(a: &[u8], b: &[u8]) -> bool
-    ensures { result ≡ bytes_eq a.now b.now }
-{
-    a == b
-}
-
 // The keywords of the language, in alphabetical order.
 const KEYWORDS: [&[u8]; 15] = [
     b"bool",
