@@ -1,14 +1,2 @@
--- Tests of two parts, taken apart.
-use Rattle.std.proofs.Common.{◌≡◌, ℕ, Bool, true, false, not, ◌&&◌, ◌||◌, refl, arith}
-
-pub both : (a b : Bool) → (a && b) ≡ true → (a ≡ true) × (b ≡ true)
-both true b h = (refl, h)
-both false b h = let z : ◌≡◌ {A = ℕ} 0 1 = cc in absurd (omega arith)
-
-pub neither : (a b : Bool) → (a || b) ≡ false → (a ≡ false) × (b ≡ false)
-neither false b h = (refl, h)
-neither true b h = let z : ◌≡◌ {A = ℕ} 0 1 = cc in absurd (omega arith)
-
-pub not_true : (b : Bool) → not b ≡ true → b ≡ false
-not_true false h = refl
-not_true true h = let z : ◌≡◌ {A = ℕ} 0 1 = cc in absurd (omega arith)
+-- Tests of two parts, taken apart: lemmas of the library under the names that the crates above use.
+pub use Rattle.std.proofs.lemmas.Bool.{and_parts as both, or_parts as neither, not-true as not_true}

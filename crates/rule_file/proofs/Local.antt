@@ -4,7 +4,7 @@ use borrow.Author.Tests.{not-false, eqb-false}
 use Rattle.std.proofs.lemmas.Slice.Eq.{bytes_eq-Decides}
 use Rattle.std.proofs.lemmas.List.{get_or-take, get_or-drop, length-take-le, length-take}
 use Rattle.std.specs.Str.{bytes_eq}
-use Rattle.finding.proofs.Bools.{both, neither}
+use Rattle.std.proofs.lemmas.Bool.{and_parts, or_parts}
 use Rattle.nodes.specs.Bytes.{byte, window, le16, le64}
 use Rattle.nodes.specs.Kinds.{number, numbered, kinds, kind_of, between}
 use Rattle.layout.specs.Items.{items, split, text, cut_off}
@@ -36,8 +36,8 @@ pub record Fit (least most k : ℕ) (item : List ℕ) : Type 0 where
 
 pub fit : (least most k : ℕ) (item : List ℕ) → length item ≤ 1 + size_of item → misfit least most k item ≡ false → Fit least most k item
 fit least most k item short h =
-    let a = neither (cut_off item) (not (between least most (size_of item)) || eqb k 255) h in
-    let b = neither (not (between least most (size_of item))) (eqb k 255) a.1 in
+    let a = or_parts (cut_off item) (not (between least most (size_of item)) || eqb k 255) h in
+    let b = or_parts (not (between least most (size_of item))) (eqb k 255) a.1 in
     let c = ltb-false (length item) (1 + size_of item) a.0 in
     let w : size_of item ≡ length (text item) = omega (arith, length-drop 1 item) in
     record { whole = w; size = ap (between least most) (sym w) ∙ not-false _ b.0; early = eqb-false k 255 b.1 }
@@ -45,8 +45,8 @@ fit least most k item short h =
 -- no member is the same
 pub apart : (bs : List ℕ) (xss : List (List ℕ)) (j : ℕ) → j < length xss → among bs xss ≡ false → bytes_eq bs (get_or xss j []) ≡ false
 apart bs [] j l h = absurd (omega arith)
-apart bs (xs ∷ xss) zero l h = (neither _ _ h).0
-apart bs (xs ∷ xss) (suc j) l h = apart bs xss j (omega arith) (neither _ _ h).1
+apart bs (xs ∷ xss) zero l h = (or_parts _ _ h).0
+apart bs (xs ∷ xss) (suc j) l h = apart bs xss j (omega arith) (or_parts _ _ h).1
 
 pub unlike : (bs : List ℕ) (xss : List (List ℕ)) (k j : ℕ) → j < k → k ≤ length xss → among bs (take k xss) ≡ false → get_or xss j [] ≡ bs → ⊥
 unlike bs xss k j l m h q =
@@ -84,11 +84,11 @@ pub record Shown (names strings : ℕ) (bs : List ℕ) (n : Node) : Type 0 where
 
 fields_shown : (names strings : ℕ) (bs : List ℕ) (k : Kind) → kind_of (byte bs 0) ≡ Some k → fits (fields k) names strings bs ≡ true → (n : Node) × Shown names strings bs n
 fields_shown names strings bs k e h =
-    let a = both (between (fields k).first (fields k).last (byte bs 1)) _ h in
-    let b = both (cond (fields k).named (ltb (byte bs 2) names) (eqb (byte bs 2) 0)) _ a.1 in
-    let c = both (eqb (byte bs 3) 0) _ b.1 in
-    let d = both (eqb (byte bs 6) 0) _ c.1 in
-    let f = both (eqb (byte bs 7) 0) _ d.1 in (
+    let a = and_parts (between (fields k).first (fields k).last (byte bs 1)) _ h in
+    let b = and_parts (cond (fields k).named (ltb (byte bs 2) names) (eqb (byte bs 2) 0)) _ a.1 in
+    let c = and_parts (eqb (byte bs 3) 0) _ b.1 in
+    let d = and_parts (eqb (byte bs 6) 0) _ c.1 in
+    let f = and_parts (eqb (byte bs 7) 0) _ d.1 in (
       record { kind = k; tag = byte bs 1; name = byte bs 2; size = le16 bs 4; value = le64 bs 8 },
       record { kind = e; node = ap (with_kind bs) e; size = refl; tag = a.0; name = b.0; value = f.1 },
     )

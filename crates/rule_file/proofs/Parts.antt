@@ -1,7 +1,7 @@
 -- The three bodies of a file whose contents are true.
 use Rattle.std.proofs.Common.{◌≡◌, ℕ, ◌+◌, ◌/◌, ◌%◌, ◌≤◌, true, List, ◌++◌, length, take, drop, sym, refl, ap, ◌∙◌, arith, length-drop, take-append-drop, eqb-true, le-leb, leb-true}
 use Rattle.std.proofs.lemmas.List.{take_all, drop-drop, length-take-le}
-use Rattle.finding.proofs.Bools.{both}
+use Rattle.std.proofs.lemmas.Bool.{and_parts}
 use Rattle.nodes.specs.Bytes.{window}
 use Rattle.layout.specs.Head.{part, contents, body_at, node_body, name_body, string_body, contiguous, counted}
 use Rattle.nodes.specs.Kinds.{between}
@@ -16,9 +16,9 @@ pub record Laid (file : List ℕ) : Type 0 where
 
 pub laid : (file : List ℕ) → contiguous (length file) (contents file) ≡ true → Laid file
 laid file h =
-    let a = both _ _ h in
-    let b = both _ _ a.1 in
-    let c = both _ _ b.1 in
+    let a = and_parts _ _ h in
+    let b = and_parts _ _ a.1 in
+    let c = and_parts _ _ b.1 in
     let o = eqb-true _ _ a.0 in
     record {
       nodes_at = o;
@@ -65,8 +65,8 @@ sixteenths n a b c = (omega arith, omega arith)
 
 pub few : (file : List ℕ) → Laid file → counted (contents file) ≡ true → (1 ≤ count (node_body file)) × (count (node_body file) ≤ 1024)
 few file w h =
-    let a = both _ _ h in
-    let b = both _ _ a.1 in
+    let a = and_parts _ _ h in
+    let b = and_parts _ _ a.1 in
     rw (nodes_long file w) (sixteenths (part file 4).length (leb-true 1 _ a.0) (leb-true _ 16384 b.0) (eqb-true _ 0 b.1))
 
 pub few_between : (n : ℕ) → 1 ≤ n → n ≤ 1024 → between 1 1024 n ≡ true

@@ -3,7 +3,7 @@ use Rattle.std.proofs.Common.{◌≡◌, ℕ, ◌+◌, ◌*◌, ◌<◌, ◌≤�
 use borrow.Author.Tests.{not-false}
 use Rattle.std.proofs.lemmas.Bool.{cases_lt}
 use Rattle.finding.specs.Checks.{passes_unless}
-use Rattle.finding.proofs.Bools.{neither}
+use Rattle.std.proofs.lemmas.Bool.{or_parts}
 use Rattle.nodes.specs.Bytes.{byte, window}
 use Rattle.layout.specs.Head.{node_body, name_body, string_body}
 use Rattle.nodes.specs.Kinds.{kind_of, between}
@@ -41,7 +41,7 @@ module _ (file : List ℕ) (clear : Clear causes file) where
   name_fit k l = fit 1 31 k (name_at file k) (item_short (name_body file) k l) (clear.1.1.1.1.0 k l)
 
   string_bad : (k : ℕ) → k < length (strings file) → (misfit 0 63 k (string_at file k) ≡ false) × (not (all string_byte (text (string_at file k))) ≡ false)
-  string_bad k l = neither _ _ (clear.1.1.1.1.1.1.1.0 k l)
+  string_bad k l = or_parts _ _ (clear.1.1.1.1.1.1.1.0 k l)
 
   string_fit : (k : ℕ) → k < length (strings file) → Fit 0 63 k (string_at file k)
   string_fit k l = fit 0 63 k (string_at file k) (item_short (string_body file) k l) (string_bad k l).0
@@ -49,7 +49,7 @@ module _ (file : List ℕ) (clear : Clear causes file) where
   good_name : (k : ℕ) → k < length (names file) → GoodName file k
   good_name k l =
       let f = name_fit k l in
-      let t = neither (not (identifier (text (name_at file k)))) (keyword (text (name_at file k))) (clear.1.1.1.1.1.0 k l) in
+      let t = or_parts (not (identifier (text (name_at file k)))) (keyword (text (name_at file k))) (clear.1.1.1.1.1.0 k l) in
       record {
         whole = f.whole;
         size = f.size;
@@ -67,7 +67,7 @@ module _ (file : List ℕ) (clear : Clear causes file) where
   sound_spans = spanned (ends file) (node_count file) few_nodes_in.0 clear.1.1.1.1.1.1.1.1.1.0
 
   children_at : (i : ℕ) → i < node_count file → (not (children_fit (node_body file) i) ≡ false) × ((eqb i 0 && not (eqb (kind_byte (node_body file) i) 1)) ≡ false)
-  children_at i l = neither _ _ (clear.1.1.1.1.1.1.1.1.1.1.0 i l)
+  children_at i l = or_parts _ _ (clear.1.1.1.1.1.1.1.1.1.1.0 i l)
 
   good_node_as : (i : ℕ) → i < node_count file → (n : Node) → Shown (length (names file)) (length (strings file)) (window (node_body file) (16 * i) 16) n → GoodNode file i n
   unfolding end_of
