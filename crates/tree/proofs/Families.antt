@@ -1,13 +1,9 @@
 -- Children and parents, where no size is at fault.
-use Rattle.std.proofs.Common.{◌≡◌, ℕ, zero, suc, ◌+◌, ◌-◌, ◌<◌, ◌≤◌, Bool, true, false, ◌||◌, eqb, ◌⊎◌, refl, ap, ◌∙◌, inl, inr, arith, le-ltb, lt-ltb, eq-eqb, eqb-true}
-use Rattle.std.proofs.lemmas.Bool.{cases_lt}
+use Rattle.std.proofs.Common.{◌≡◌, ℕ, zero, suc, ◌+◌, ◌-◌, ◌<◌, ◌≤◌, Bool, true, false, ◌||◌, eqb, refl, ap, ◌∙◌, inl, inr, arith, le-ltb, lt-ltb, eq-eqb, eqb-true}
+use Rattle.std.proofs.lemmas.Bool.{cases_lt, or_cases}
 use Rattle.nodes.specs.Tree.{parent, children, children_from}
 use Rattle.tree.specs.Spans.{Spanned, Family, Chain, elem}
 use Rattle.tree.proofs.Nesting.{Holds, parent_at, parent_holds}
-
-either_true : (a b : Bool) → (a || b) ≡ true → (a ≡ true) ⊎ (b ≡ true)
-either_true true b h = inl refl
-either_true false b h = inr h
 
 second_true : (a b : Bool) → b ≡ true → (a || b) ≡ true
 second_true true b h = refl
@@ -60,7 +56,7 @@ module _ (e : ℕ → ℕ) (n : ℕ) (s : Spanned e n) (i : ℕ) (l : i < n) whe
   listed (suc m) j k f h =
       elim (cases_lt j (e i)) [
         | inl lt ↦
-            elim (either_true (eqb k j) (elem k (children_from m e (e j) (e i))) (rw (lt-ltb j (e i) lt) at h)) [
+            elim (or_cases (eqb k j) (elem k (children_from m e (e j) (e i))) (rw (lt-ltb j (e i) lt) at h)) [
               | inl q ↦ ap (parent e) (eqb-true k j q) ∙ from_parent j f lt
               | inr q ↦ listed m (e j) k (from_next j f lt) q
             ]
