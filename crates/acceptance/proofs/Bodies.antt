@@ -32,19 +32,19 @@ leading_is r (c ∷ cs) (suc s) f g = let e = f 0 c (omega arith) refl in rw (e,
 
 -- The first s nodes are no blocks, and the next is one.
 block_is : (ns : List Node) (cs : List ℕ) (s b : ℕ) → ((q c : ℕ) → q < s → slice_get cs q ≡ Some c → eqb (table.kind_at ns c) 7 ≡ false) → slice_get cs s ≡ Some b → eqb (table.kind_at ns b) 7 ≡ true → first_block ns cs ≡ b
-block_is ns [] s b f h k = let z : ◌≡◌ {A = ℕ} 0 1 = cc in absurd (omega arith)
+block_is ns [] s b f h k = absurd (grind arith)
 block_is ns (c ∷ cs) zero b f h k = let q : c ≡ b = cc in rw q (rw k refl)
 block_is ns (c ∷ cs) (suc s) b f h k = let e = f 0 c (omega arith) refl in rw e (block_is ns cs s b (λ q x l h. f (suc q) x (omega arith) h) h k)
 
 nth_take : (cs : List ℕ) (s q c : ℕ) → slice_get (take s cs) q ≡ Some c → (q < s) × (slice_get cs q ≡ Some c)
-nth_take cs zero q c h = let z : ◌≡◌ {A = ℕ} 0 1 = cc in absurd (omega arith)
-nth_take [] (suc s) q c h = let z : ◌≡◌ {A = ℕ} 0 1 = cc in absurd (omega arith)
+nth_take cs zero q c h = absurd (grind arith)
+nth_take [] (suc s) q c h = absurd (grind arith)
 nth_take (x ∷ cs) (suc s) zero c h = (omega arith, h)
 nth_take (x ∷ cs) (suc s) (suc q) c h = let p = nth_take cs s q c h in (omega (arith, p.0), p.1)
 
 take_nth : (cs : List ℕ) (s q c : ℕ) → q < s → slice_get cs q ≡ Some c → slice_get (take s cs) q ≡ Some c
 take_nth cs zero q c l h = absurd (omega arith)
-take_nth [] (suc s) q c l h = let z : ◌≡◌ {A = ℕ} 0 1 = cc in absurd (omega arith)
+take_nth [] (suc s) q c l h = absurd (grind arith)
 take_nth (x ∷ cs) (suc s) zero c l h = h
 take_nth (x ∷ cs) (suc s) (suc q) c l h = take_nth cs s q c (omega arith) h
 

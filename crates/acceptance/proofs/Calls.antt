@@ -42,11 +42,11 @@ module _ (r : Rule) (τ : ℕ → Option Ty) where
       rw (y, leading) (ap suc (matches_count ps cs b.1))
 
   matches_nth : (ps cs : List ℕ) (k p : ℕ) → matches r.nodes τ ps cs ≡ true → slice_get (leading r ps) k ≡ Some p → (c : ℕ) × (slice_get cs k ≡ Some c) × (fits_asked (tagged (node r p).tag) (τ c) ≡ true)
-  matches_nth [] cs k p h n = let z : ◌≡◌ {A = ℕ} 0 1 = cc in absurd (omega arith)
+  matches_nth [] cs k p h n = absurd (grind arith)
   matches_nth (x ∷ ps) [] k p h n =
       let y = not-true (eqb (kind_at r x) 6) h in
       let m : slice_get {X = ℕ} [] k ≡ Some p = rw (y, leading) at n in
-      let z : ◌≡◌ {A = ℕ} 0 1 = cc in absurd (omega arith)
+      absurd (grind arith)
   matches_nth (x ∷ ps) (c ∷ cs) k p h n =
       let b = and_parts (takes (node r x) (τ c)) (matches r.nodes τ ps cs) h in
       let y = and_parts (eqb (kind_at r x) 6) (fits_asked (tagged (node r x).tag) (τ c)) b.0 in

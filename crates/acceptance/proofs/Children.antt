@@ -83,7 +83,7 @@ module _ (r : Rule) (spans : Spanned (table.end r.nodes) (length r.nodes)) (fami
   nth_child k c h =
       elim (cases_lt k (length (children r i))) [
         | inl lt ↦ let a = count_has k lt in let b = child_nth k a in (a, cc)
-        | inr le ↦ let b = slice_get_past (children r i) k le in let z : ◌≡◌ {A = ℕ} 0 1 = cc in absurd (omega arith)
+        | inr le ↦ let b = slice_get_past (children r i) k le in absurd (grind arith)
       ]
 
   pub elem_child : (c : ℕ) → elem c (children r i) ≡ true → (k : ℕ) × ((has r i k ≡ true) × (c ≡ child r i k))

@@ -67,7 +67,7 @@ slots_kin Text = tt
 
 -- Each of some nodes, by number.
 pub all_nth : (P : ℕ → Type 0) (f : ℕ → ℕ) (cs : List ℕ) (k c : ℕ) → All P (map f cs) → slice_get cs k ≡ Some c → P (f c)
-all_nth P f [] k c a h = let z : ◌≡◌ {A = ℕ} 0 1 = cc in absurd (omega arith)
+all_nth P f [] k c a h = absurd (grind arith)
 all_nth P f (x ∷ xs) zero c a h = let q : x ≡ c = cc in rw q at a.0
 all_nth P f (x ∷ xs) (suc k) c a h = all_nth P f xs k c a.1 h
 

@@ -37,12 +37,12 @@ module _ (P : ℕ → Type 0) where
       (either_of (eqb b.name name) (inner best b) best (inner_of best b p a.0) p) a.1
 
   node_is : (d : ℕ) (o : Option Binding) → Of o → node_of o ≡ Some d → P d
-  node_is d None p h = let z : ◌≡◌ {A = ℕ} 0 1 = cc in absurd (omega arith)
+  node_is d None p h = absurd (grind arith)
   node_is d (Some b) p h = let e : b.node ≡ d = cc in rw e at p
 
   when_is : (d : ℕ) (v : Bool) (o : Option Binding) → Of o → cond v (node_of o) None ≡ Some d → P d
   when_is d true o p h = node_is d o p h
-  when_is d false o p h = let z : ◌≡◌ {A = ℕ} 0 1 = cc in absurd (omega arith)
+  when_is d false o p h = absurd (grind arith)
 
 pub meant_lives : (ns : List Node) (i d : ℕ) → meant ns i ≡ Some d → lives ns i d ≡ true
 unfolding meant in_force

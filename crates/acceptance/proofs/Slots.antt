@@ -38,7 +38,7 @@ module _ (r : Rule) (i k : ℕ) (c : Class) (rest : List Slot) where
   first_taken : (cs run later : List ℕ) → Chain (table.end r.nodes) (child r i k) (end r i) cs → kinds cs ≡ run ++ later → every (of_class c) run ≡ true → length run ≡ 1 → Arranged rest later → Taken r i k c × Rest r i (suc k) rest
   first_taken cs [] later h q e l a = absurd (omega arith)
   first_taken cs (x ∷ y ∷ run) later h q e l a = absurd (omega arith)
-  first_taken [] (x ∷ []) later h q e l a = let z : ◌≡◌ {A = ℕ} 0 1 = cc in absurd (omega arith)
+  first_taken [] (x ∷ []) later h q e l a = absurd (grind arith)
   first_taken (n ∷ cs) (x ∷ []) later h q e l a =
       let s : x ≡ kind_at r (child r i k) = (let p : n ≡ child r i k = h.0 in let w : kind_at r n ≡ x = cc in sym w ∙ ap (kind_at r) p) in
       let m : later ≡ kinds cs = cc in (
@@ -66,7 +66,7 @@ take_none r i k s = none s.nodes s.chained s.arranged
   where
     none : (cs : List ℕ) → Chain (table.end r.nodes) (child r i k) (end r i) cs → map (table.kind_at r.nodes) cs ≡ [] → has r i k ≡ false
     none [] h q = le-ltb (child r i k) (end r i) (omega (arith, h))
-    none (c ∷ cs) h q = let z : ◌≡◌ {A = ℕ} 0 1 = cc in absurd (omega arith)
+    none (c ∷ cs) h q = absurd (grind arith)
 
 -- Some children go into a slot for many: those from k up to some number.
 pub record Run (r : Rule) (i k : ℕ) (c : Class) (rest : List Slot) : Type 0 where
@@ -79,7 +79,7 @@ module _ (r : Rule) (i : ℕ) (c : Class) (rest : List Slot) where
   run_taken : (k : ℕ) (cs run later : List ℕ) → Chain (table.end r.nodes) (child r i k) (end r i) cs → map (table.kind_at r.nodes) cs ≡ run ++ later → every (of_class c) run ≡ true → Arranged rest later → Run r i k c rest
   run_taken k cs [] later h q e a =
       record { stop = k; from = omega arith; taken = λ n x y. absurd (omega arith); later = record { nodes = cs; chained = h; arranged = subst (Arranged rest) (sym q) a } }
-  run_taken k [] (x ∷ run) later h q e a = let z : ◌≡◌ {A = ℕ} 0 1 = cc in absurd (omega arith)
+  run_taken k [] (x ∷ run) later h q e a = absurd (grind arith)
   run_taken k (n ∷ cs) (x ∷ run) later h q e a =
       let p : n ≡ child r i k = h.0 in
       let w : kind_at r n ≡ x = cc in

@@ -104,11 +104,11 @@ module _ (x y : Option Ty) (t : Ty) (p : x ≡ Some t) where
 -- The types of the first two children.
 module _ (ns : List Node) (τ : ℕ → Option Ty) where
   pub held_first : (cs : List ℕ) (c : ℕ) → slice_get cs 0 ≡ Some c → (held ns τ cs).first ≡ τ c
-  held_first [] c h = let z : ◌≡◌ {A = ℕ} 0 1 = cc in absurd (omega arith)
+  held_first [] c h = absurd (grind arith)
   held_first (x ∷ xs) c h = let q : x ≡ c = cc in ap τ q
 
   pub held_second : (cs : List ℕ) (c : ℕ) → slice_get cs 1 ≡ Some c → (held ns τ cs).second ≡ τ c
-  held_second [] c h = let z : ◌≡◌ {A = ℕ} 0 1 = cc in absurd (omega arith)
+  held_second [] c h = absurd (grind arith)
   held_second (x ∷ xs) c h = held_first xs c h
 
   pub held_alone : (cs : List ℕ) → length cs ≤ 1 → (held ns τ cs).second ≡ None
@@ -117,7 +117,7 @@ module _ (ns : List Node) (τ : ℕ → Option Ty) where
   held_alone (x ∷ y ∷ xs) h = absurd (omega arith)
 
   pub held_some : (cs : List ℕ) (c : ℕ) → slice_get cs 0 ≡ Some c → ltb 0 (held ns τ cs).count ≡ true
-  held_some [] c h = let z : ◌≡◌ {A = ℕ} 0 1 = cc in absurd (omega arith)
+  held_some [] c h = absurd (grind arith)
   held_some (x ∷ xs) c h = lt-ltb 0 ((held ns τ xs).count + 1) (omega arith)
 
   pub held_none : (cs : List ℕ) → length cs ≤ 0 → (held ns τ cs).count ≡ 0

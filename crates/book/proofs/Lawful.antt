@@ -22,7 +22,7 @@ put_elsewhere m c c' (negsuc l) (pos l') v h = grind (arith, nat_tests)
 put_elsewhere m c c' (negsuc l) (negsuc l') v h = grind (arith, nat_tests)
 
 refused : (m : Meaning) (v : ℤ) (e : BookFault) (r : Result Spot BookFault) → done r ≡ Err e → left m v r ≡ m
-refused m v e (Ok s) h = let z : ◌≡◌ {A = ℕ} 0 1 = cc in absurd (omega arith)
+refused m v e (Ok s) h = absurd (grind arith)
 refused m v e (Err f) h = refl
 
 pub refused_put : RefusedPut

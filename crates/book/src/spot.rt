@@ -1,6 +1,6 @@
 // Where in a book a call leads.
-ghost use Rattle.std.specs.Prelude.{◌≡◌, ◌<◌, IfOk};
-ghost use Rattle.book.specs.Spots.{spot_of};
+ghost use Rattle.std.specs.Prelude.{◌≡◌, IfOk};
+ghost use Rattle.book.specs.Spots.{IsIn, spot_of};
 
 use crate::COLUMNS;
 use crate::fault::BookFault;
@@ -17,7 +17,7 @@ pub struct Spot {
 /// A column over 7 is refused first, then a lot below 0 or not below `lots`.
 pub fn find_spot(lots: u32, column: u32, lot: i32) -> Result<Spot, BookFault>
     ensures value { result ≡ spot_of lots column lot }
-    ensures inside { IfOk result (λ s. (s.column < 8) × (s.lot < lots)) }
+    ensures inside { IfOk result (IsIn lots) }
 {
     if column >= COLUMNS {
         return Err(BookFault::Column);

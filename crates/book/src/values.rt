@@ -1,7 +1,9 @@
 // All values of a book, by lot and then by column.
 ghost use Rattle.std.specs.Prelude.{◌≡◌, ◌<◌, ◌++◌, IfOk, OnOk};
+ghost use Rattle.book.specs.Spots.{IsIn};
 ghost use Rattle.book.specs.Values.{entry_of, in_columns, all_values};
 
+use crate::spot::Spot;
 use crate::{Book, COLUMNS};
 use std::alloc::{AllocError, Global};
 
@@ -29,14 +31,15 @@ fn add_lot<B: Book>(found: &mut Vec<Entry>, book: &B, lot: u32) -> Result<(), Al
     requires { lot < (B.Book.meaning book.now).lots }
     ensures { OnOk result (found.new.items ≡ found.old.items ++ in_columns (B.Book.meaning book.now) lot 8) }
 {
-    found.extend((0..COLUMNS).filter_map(|column| entry_at(book, column, lot)))
+    found.extend((0..COLUMNS).filter_map(|column| entry_at(book, Spot { column, lot })))
 }
 
-// The value of a column and a lot that the book has, as an entry.
-fn entry_at<B: Book>(book: &B, column: u32, lot: u32) -> Option<Entry>
-    requires { (column < 8) × (lot < (B.Book.meaning book.now).lots) }
-    ensures { result ≡ entry_of lot column ((B.Book.meaning book.now).value column lot) }
+// The value of a spot of the book, as an entry.
+fn entry_at<B: Book>(book: &B, spot: Spot) -> Option<Entry>
+    requires { IsIn (B.Book.meaning book.now).lots spot }
+    ensures { result ≡ entry_of spot.lot spot.column ((B.Book.meaning book.now).value spot.column spot.lot) }
 {
+    let Spot { column, lot } = spot;
     let value = book.get(column, lot as i32).ok().flatten()?;
     Some(Entry { lot, column, value })
 }

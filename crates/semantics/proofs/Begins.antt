@@ -1,5 +1,6 @@
 -- A rule that is under way between calls has a node that is next to begin.
 use Rattle.std.proofs.Common.{◌≡◌, ℕ, ◌+◌, Bool, true, false, ltb, leb, List, [], ◌∷◌, length, Some, None, Option, sym, refl, ◌∙◌, arith, Result}
+use Rattle.std.proofs.lemmas.Option.{none-some, same_Some}
 use Rattle.std.proofs.lemmas.Bool.{true≢false}
 use Rattle.book.specs.Meanings.{Meaning}
 use Rattle.finding.specs.declared.Finding.{Finding}
@@ -24,9 +25,6 @@ use Rattle.semantics.specs.declared.stop.Stop.TheVariants.{NoCells, NoPlace}
 use Rattle.semantics.specs.declared.progress.Open.{Open}
 use Rattle.semantics.specs.declared.progress.Pending.{Pending}
 use Rattle.semantics.specs.declared.progress.Pending.TheVariants.{Begin, Begun, Given}
-
-no_some : {X : Type 0} {Y : Type 0} (x : X) → ◌≡◌ {A = Option X} None (Some x) → Y
-no_some x h = absurd (let z : ◌≡◌ {A = ℕ} 0 1 = cc in omega arith)
 
 one_or_other : (a b : Bool) (x : State) (f g : Finding Stop) → beginning (elim a [ true ↦ elim b [ true ↦ begins x | false ↦ hindered f ] | false ↦ hindered g ]) ≡ true
 one_or_other true true x f g = refl
@@ -81,17 +79,14 @@ origin_begins r m = begin_begins r (origin r) _ _
 spent_next : (x : Next) (b : Bool) → ending b x ≡ Some Spent → beginning x ≡ true
 spent_next (begins t) b h = refl
 spent_next (hindered f) b h = refl
-spent_next (moves t n e) b h = no_some Spent h
-spent_next (halts f) b h = absurd (let z : ◌≡◌ {A = ℕ} 0 1 = cc in omega arith)
-spent_next finished b h = absurd (let z : ◌≡◌ {A = ℕ} 0 1 = cc in omega arith)
-spent_next stuck b h = no_some Spent h
-
-some_out : {X : Type 0} (x y : X) → ◌≡◌ {A = Option X} (Some x) (Some y) → x ≡ y
-some_out x y h = cc
+spent_next (moves t n e) b h = absurd (none-some Spent h)
+spent_next (halts f) b h = absurd (grind arith)
+spent_next finished b h = absurd (grind arith)
+spent_next stuck b h = absurd (none-some Spent h)
 
 pub spent_begins : (r : Rule) (budget units : ℕ) (s t : State) (m n : Meaning) (es : List Event) → Going r budget s m Spent units es (Some t) n → Beginning r t
 spent_begins r budget units s t m n es g o =
-    any_next r t n o (rw (some_out t g.last g.leaves) (spent_next (next r g.last n) (ltb units budget) g.ends))
+    any_next r t n o (rw (same_Some t g.last g.leaves) (spent_next (next r g.last n) (ltb units budget) g.ends))
 
 zero_ends : (x : Next) → beginning x ≡ true → ending (ltb 0 0) x ≡ Some Spent
 zero_ends (begins t) h = refl
@@ -109,7 +104,7 @@ abbrev Ready : Runner → Type 0
 Ready w = (s : State) → w.under_way ≡ Some s → Beginning w.rule s
 
 idle : (r : Rule) → Ready (runner r None)
-idle r s h = no_some s h
+idle r s h = absurd (none-some s h)
 
 load_ready : (z : Option State) (x : Option Refusal) (file : List ℕ) (w : Runner) → Ready w → Ready (load_after z x file w)
 load_ready (Some s) x file w h = h
@@ -118,15 +113,15 @@ load_ready None None file w h = idle _
 
 begin_ready : (z : Option State) (w : Runner) → Ready w → Ready (begin_after z w)
 begin_ready (Some s) w h = h
-begin_ready None w h = λ s e. rw (← (some_out (origin w.rule) s e)) (origin_begins w.rule)
+begin_ready None w h = λ s e. rw (← (same_Some (origin w.rule) s e)) (origin_begins w.rule)
 
 plain_ready : (w : World) (b : Result Answer Denial) (u : Runner) (a : Result Answer Denial) (es : List Event) (v : World) → Plainly w b u a es v → Ready u → Ready v.runner
 plain_ready w b u a es v x h = rw x.leaves h
 
 left_ready : (r : Rule) (b units : ℕ) (s : State) (m n : Meaning) (es : List Event) (how : Ending) (z : Option State) → Going r b s m how units es z n → (t : State) → z ≡ Some t → Beginning r t
-left_ready r b units s m n es Finished z g t e = no_some t (sym g.leaves ∙ e)
+left_ready r b units s m n es Finished z g t e = absurd (none-some t (sym g.leaves ∙ e))
 left_ready r b units s m n es Spent z g t e = spent_begins r b units s t m n es (rw e at g)
-left_ready r b units s m n es (Stopped f) z g t e = no_some t (sym g.leaves ∙ e)
+left_ready r b units s m n es (Stopped f) z g t e = absurd (none-some t (sym g.leaves ∙ e))
 
 went_ready : (z : Option State) (w : World) (b : ℕ) (a : Result Answer Denial) (es : List Event) (v : World) → WentFrom z w b a es v → Ready w.runner → Ready v.runner
 went_ready None w b a es v x h = plain_ready w _ _ a es v x h

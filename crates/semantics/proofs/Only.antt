@@ -15,14 +15,14 @@ use Rattle.semantics.specs.declared.import.Event.{Event}
 
 -- A go ends only where it has no act left: before a node that can begin, only if the budget is used up.
 spent_first : (t : Bool) (h : Ending) → cond t None (Some Spent) ≡ Some h → t ≡ false
-spent_first true h x = absurd (let z : ◌≡◌ {A = ℕ} 0 1 = cc in omega arith)
+spent_first true h x = absurd (grind arith)
 spent_first false h x = refl
 
 used_up : (r : Rule) (s : State) (m : Meaning) (u b : ℕ) (h : Ending) (t : State) → next r s m ≡ begins t → ending (ltb u b) (next r s m) ≡ Some h → b ≤ u
 used_up r s m u b h t g x = ltb-false u b (spent_first (ltb u b) h (rw g at x))
 
 no_end : (r : Rule) (s : State) (m : Meaning) (b : Bool) (h : Ending) (t : State) (n : Meaning) (e : List Event) → next r s m ≡ moves t n e → ending b (next r s m) ≡ Some h → ⊥
-no_end r s m b h t n e g x = let y = rw g at x in let z : ◌≡◌ {A = ℕ} 0 1 = cc in omega arith
+no_end r s m b h t n e g x = let y = rw g at x in grind arith
 
 record SameActs (k k' : ℕ) (es es' : List Event) (q q' : State) (n n' : Meaning) : Type 0 where
   units : k ≡ k'
@@ -36,8 +36,8 @@ acts_only {r} {s = p} {m = m} none j b u x l h s (paid g t) u' x' l' h' s' = let
 acts_only {r} {s = p} {m = m} none j b u x l h s (freely g t) u' x' l' h' s' = absurd (no_end r p m (ltb u b) h _ _ _ g s)
 acts_only {r} {s = p} {m = m} (paid g t) j b u x l h s none u' x' l' h' s' = let y = used_up r p m u' b h' _ g s' in absurd (omega arith)
 acts_only {r} {s = p} {m = m} (freely g t) j b u x l h s none u' x' l' h' s' = absurd (no_end r p m (ltb u' b) h' _ _ _ g s')
-acts_only (paid g t) j b u x l h s (freely g' t') u' x' l' h' s' = absurd (let z : ◌≡◌ {A = ℕ} 0 1 = cc in omega arith)
-acts_only (freely g t) j b u x l h s (paid g' t') u' x' l' h' s' = absurd (let z : ◌≡◌ {A = ℕ} 0 1 = cc in omega arith)
+acts_only (paid g t) j b u x l h s (freely g' t') u' x' l' h' s' = absurd (grind arith)
+acts_only (freely g t) j b u x l h s (paid g' t') u' x' l' h' s' = absurd (grind arith)
 acts_only {r} (paid {t = c} g t) j b u x l h s (paid {t = c'} g' t') u' x' l' h' s' =
     let er : c ≡ c' = cc in
     let i = acts_only t (suc j) b u (omega arith) l h s (rw (← er) at t') u' (omega arith) l' h' s' in

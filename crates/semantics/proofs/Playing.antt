@@ -1,6 +1,7 @@
 -- Courses computed: what a function with a bound on acts finds is a course of the definitions.
 use Rattle.std.proofs.Common.{◌≡◌, ℕ, zero, suc, ◌+◌, Bool, true, false, ltb, List, [], ◌∷◌, ◌++◌, ℤ, Some, None, Option, sym, refl, add-one, arith, Ok, Err, Result}
 use Rattle.std.proofs.lemmas.Bool.Decides.{nat_tests}
+use Rattle.std.proofs.lemmas.Option.{none-some, same_Some}
 use Rattle.std.proofs.lemmas.Bool.{lt-ltb, true≢false}
 use Rattle.book.specs.Meanings.{Meaning}
 use Rattle.semantics.specs.Acts.{State, Next, begins, hindered, moves, halts, finished, stuck, next}
@@ -52,24 +53,18 @@ play (suc f) r b s m = by_next (play f r) b s m (next r s m)
 abbrev Found : Rule → ℕ → State → Meaning → Out → Type 0
 Found r b s m o = Going r b s m o.how o.units o.events (left_by o.how o.last) o.book
 
-no_some : {X : Type 0} {Y : Type 0} (x : X) → ◌≡◌ {A = Option X} None (Some x) → Y
-no_some x h = absurd (let z : ◌≡◌ {A = ℕ} 0 1 = cc in omega arith)
-
-some_out : {X : Type 0} (x y : X) → ◌≡◌ {A = Option X} (Some x) (Some y) → x ≡ y
-some_out x y h = cc
-
 found_here : (r : Rule) (b : ℕ) (s : State) (m : Meaning) (how : Ending) (o : Out) → ending (ltb 0 b) (next r s m) ≡ Some how → out how s m ≡ Some o → Found r b s m o
 found_here r b s m how o h x =
-    let e = some_out _ o x in
+    let e = same_Some _ o x in
     rw (← e) (record { last = s; within = omega arith; acts = none; ends = h; leaves = refl })
 
 ltb_suc : (k c : ℕ) → ltb (k + 1) (suc c) ≡ ltb k c
 ltb_suc k c = grind (arith, nat_tests)
 
 found_paid : (r : Rule) (b : ℕ) (s t : State) (m : Meaning) (x : Option Out) (o : Out) → next r s m ≡ begins t → ((y : Out) → x ≡ Some y → Found r b t m y) → dearer x ≡ Some o → Found r (suc b) s m o
-found_paid r b s t m None o h g y = no_some o y
+found_paid r b s t m None o h g y = absurd (none-some o y)
 found_paid r b s t m (Some x) o h g y =
-    let z = some_out _ o y in
+    let z = same_Some _ o y in
     let u = g x refl in
     let w = u.within in
     rw (← z) (record {
@@ -81,9 +76,9 @@ found_paid r b s t m (Some x) o h g y =
     })
 
 found_free : (r : Rule) (b : ℕ) (s t : State) (m n : Meaning) (e : List Event) (x : Option Out) (o : Out) → next r s m ≡ moves t n e → ((y : Out) → x ≡ Some y → Found r b t n y) → later e x ≡ Some o → Found r b s m o
-found_free r b s t m n e None o h g y = no_some o y
+found_free r b s t m n e None o h g y = absurd (none-some o y)
 found_free r b s t m n e (Some x) o h g y =
-    let z = some_out _ o y in
+    let z = same_Some _ o y in
     let u = g x refl in
     rw (← z) (record {
       last = u.last;
@@ -102,11 +97,11 @@ by_next_sound r f ih (suc b) s m (hindered x) o h y =
 by_next_sound r f ih b s m (moves t n e) o h y = found_free r b s t m n e (f b t n) o h (ih b t n) y
 by_next_sound r f ih b s m (halts x) o h y = found_here r b s m (Stopped x) o (rw h refl) y
 by_next_sound r f ih b s m finished o h y = found_here r b s m Finished o (rw h refl) y
-by_next_sound r f ih b s m stuck o h y = no_some o y
+by_next_sound r f ih b s m stuck o h y = absurd (none-some o y)
 
 play_sound : (f : ℕ) (r : Rule) (b : ℕ) (s : State) (m : Meaning) (o : Out) → play f r b s m ≡ Some o → Found r b s m o
 unfolding play
-play_sound zero r b s m o h = no_some o h
+play_sound zero r b s m o h = absurd (none-some o h)
 play_sound (suc f) r b s m o h = by_next_sound r (play f r) (λ b s m o x. play_sound f r b s m o x) b s m (next r s m) o refl h
 
 -- One call.
@@ -137,20 +132,20 @@ reply f (go b) w = go_reply f b w w.runner.under_way
 reply f close w = plainly w (close_answer w.runner.under_way) (close_after w.runner)
 
 gone_sound : (w : World) (s : State) (b : ℕ) (x : Option Out) (y : Reply) → ((o : Out) → x ≡ Some o → Found w.runner.rule b s w.book o) → gone w x ≡ Some y → WentFrom (Some s) w b y.answer y.events y.after
-gone_sound w s b None y g h = no_some y h
+gone_sound w s b None y g h = absurd (none-some y h)
 gone_sound w s b (Some o) y g h =
-    rw (← (some_out _ y h)) (record { how = o.how; units = o.units; answers = refl; going = g o refl; keeps = refl })
+    rw (← (same_Some _ y h)) (record { how = o.how; units = o.units; answers = refl; going = g o refl; keeps = refl })
 
 go_sound : (f b : ℕ) (w : World) (z : Option State) (y : Reply) → go_reply f b w z ≡ Some y → WentFrom z w b y.answer y.events y.after
-go_sound f b w None y h = rw (← (some_out _ y h)) (record { answers = refl; quiet = refl; leaves = refl })
+go_sound f b w None y h = rw (← (same_Some _ y h)) (record { answers = refl; quiet = refl; leaves = refl })
 go_sound f b w (Some s) y h =
     gone_sound w s b (play f w.runner.rule b s w.book) y (play_sound f w.runner.rule b s w.book) h
 
 reply_sound : (f : ℕ) (c : Call) (w : World) (y : Reply) → reply f c w ≡ Some y → Called c w y.answer y.events y.after
-reply_sound f (load file) w y h = rw (← (some_out _ y h)) (record { answers = refl; quiet = refl; leaves = refl })
-reply_sound f begin w y h = rw (← (some_out _ y h)) (record { answers = refl; quiet = refl; leaves = refl })
+reply_sound f (load file) w y h = rw (← (same_Some _ y h)) (record { answers = refl; quiet = refl; leaves = refl })
+reply_sound f begin w y h = rw (← (same_Some _ y h)) (record { answers = refl; quiet = refl; leaves = refl })
 reply_sound f (go b) w y h = go_sound f b w w.runner.under_way y h
-reply_sound f close w y h = rw (← (some_out _ y h)) (record { answers = refl; quiet = refl; leaves = refl })
+reply_sound f close w y h = rw (← (same_Some _ y h)) (record { answers = refl; quiet = refl; leaves = refl })
 
 -- Calls one after another.
 pub record Story : Type 0 where
@@ -174,16 +169,16 @@ abbrev Told : List Call → World → Story → Type 0
 Told cs w y = Course cs w y.answers y.events y.after
 
 told_on : (c : Call) (cs : List Call) (w : World) (o : Reply) (x : Option Story) (y : Story) → Called c w o.answer o.events o.after → ((v : Story) → x ≡ Some v → Told cs o.after v) → tell o x ≡ Some y → Told (c ∷ cs) w y
-told_on c cs w o None y k g h = no_some y h
-told_on c cs w o (Some v) y k g h = rw (← (some_out _ y h)) (call o.events k (g v refl))
+told_on c cs w o None y k g h = absurd (none-some y h)
+told_on c cs w o (Some v) y k g h = rw (← (same_Some _ y h)) (call o.events k (g v refl))
 
 told_call : (f : ℕ) (c : Call) (cs : List Call) (w : World) (x : Option Reply) (y : Story) → reply f c w ≡ x → ((v : World) (z : Story) → plays f cs v ≡ Some z → Told cs v z) → after_call (plays f cs) x ≡ Some y → Told (c ∷ cs) w y
-told_call f c cs w None y h ih k = no_some y k
+told_call f c cs w None y h ih k = absurd (none-some y k)
 told_call f c cs w (Some o) y h ih k = told_on c cs w o (plays f cs o.after) y (reply_sound f c w o h) (ih o.after) k
 
 plays_sound : (f : ℕ) (cs : List Call) (w : World) (y : Story) → plays f cs w ≡ Some y → Told cs w y
 unfolding plays
-plays_sound f [] w y h = rw (← (some_out _ y h)) over
+plays_sound f [] w y h = rw (← (same_Some _ y h)) over
 plays_sound f (c ∷ cs) w y h = told_call f c cs w (reply f c w) y refl (λ v z x. plays_sound f cs v z x) h
 
 -- What a case compares: small values, and not the whole story, which would be written out.

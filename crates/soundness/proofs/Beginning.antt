@@ -35,7 +35,7 @@ length_takes r i = elim (cases_Bool (eqb (kind_at r i) 7)) [
 ]
 
 zero_typed : (x : Option Ty) (t : Ty) → x ≡ Some t → is_of x (zero_of x) ≡ true
-zero_typed None t h = absurd (let z : ◌≡◌ {A = ℕ} 0 1 = cc in omega arith)
+zero_typed None t h = absurd (grind arith)
 zero_typed (Some ty.Int) t h = refl
 zero_typed (Some ty.Long) t h = refl
 zero_typed (Some ty.Bool) t h = refl
@@ -56,7 +56,7 @@ first_value r d = zero_of (tagged (node r d).tag)
 
 -- a fresh cell of the declaration with the number q among some
 fresh_cell : (r : Rule) (ds : List ℕ) (q x d : ℕ) → slice_get ds q ≡ Some d → x < cells_of (node r d) → (cells_all r.nodes (take q ds) + x < cells_all r.nodes ds) × (slice_get (fresh r ds) (cells_all r.nodes (take q ds) + x) ≡ Some (first_value r d))
-fresh_cell r [] q x d h lt = absurd (let z : ◌≡◌ {A = ℕ} 0 1 = cc in omega arith)
+fresh_cell r [] q x d h lt = absurd (grind arith)
 fresh_cell r (y ∷ ds) zero x d h lt =
     let e : y ≡ d = cc in
     let lt' : x < cells_of (node r y) = rw e lt in

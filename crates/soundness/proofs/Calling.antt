@@ -82,7 +82,7 @@ abbrev Filled : Rule → List Value → Open → ℕ → Type 0
 Filled r cs o k = (d : ℕ) → meant r.nodes o.node ≡ Some d → kind_at r d ≡ 5 → (q : ℕ) → q < k → FilledBy r (slice_get (parameters r d) q) cs (o.base + q)
 
 within : {X : Type 0} (xs : List X) (q : ℕ) (x : X) → slice_get xs q ≡ Some x → q < length xs
-within [] q x h = absurd (let z : ◌≡◌ {A = ℕ} 0 1 = cc in omega arith)
+within [] q x h = absurd (grind arith)
 within (y ∷ xs) zero x h = omega arith
 within (y ∷ xs) (suc q) x h = let k = within xs q x h in omega arith
 

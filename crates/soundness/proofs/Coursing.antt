@@ -1,5 +1,6 @@
 -- In a course of calls from a new runner the rule is always one that was checked, and its state one that it has reached.
 use Rattle.std.proofs.Common.{◌≡◌, ℕ, List, Some, None, Option, sym, refl, ◌∙◌, subst, arith, Result}
+use Rattle.std.proofs.lemmas.Option.{none-some}
 use Rattle.book.specs.Meanings.{Meaning}
 use Rattle.checker.specs.declared.Refusal.{Refusal}
 use Rattle.finding.specs.declared.Finding.{Finding}
@@ -34,17 +35,14 @@ pub record GoodRunner (w : Runner) : Type 0 where
   pub checked : Checked w.rule type
   pub reached : (s : State) → w.under_way ≡ Some s → Reached w.rule s
 
-no_some : {A : Type 0} (x : A) → None ≡ Some x → ⊥
-no_some x h = let z : ◌≡◌ {A = ℕ} 0 1 = cc in omega arith
-
 -- a file that no load refuses has no fault and no violation
 violation_none : (v : Option (Finding Violation)) → by_violation v ≡ None → v ≡ None
 violation_none None h = refl
-violation_none (Some v) h = let z : ◌≡◌ {A = ℕ} 0 1 = cc in absurd (omega arith)
+violation_none (Some v) h = absurd (grind arith)
 
 fault_none : (f : Option (Finding FileFault)) (v : Option (Finding Violation)) → by_fault f v ≡ None → (f ≡ None) × (v ≡ None)
 fault_none None v h = (refl, violation_none v h)
-fault_none (Some f) v h = let z : ◌≡◌ {A = ℕ} 0 1 = cc in absurd (omega arith)
+fault_none (Some f) v h = absurd (grind arith)
 
 not_refused : (file : List ℕ) → refused file ≡ None → (first_fault file ≡ None) × (first_violation (table_of file) ≡ None)
 unfolding refused
@@ -61,12 +59,12 @@ smallest_lawful = refl
 
 -- idle, with a checked rule
 idle : (r : Rule) (type : ℕ → Option Ty) → Checked r type → GoodRunner (runner r None)
-idle r type c = record { type = type; checked = c; reached = λ s h. absurd (no_some s h) }
+idle r type c = record { type = type; checked = c; reached = λ s h. absurd (none-some s h) }
 
 left_reached : (r : Rule) (how : Ending) (last s : State) → Reached r last → left_by how last ≡ Some s → Reached r s
-left_reached r Finished last s h e = absurd (no_some s e)
+left_reached r Finished last s h e = absurd (none-some s e)
 left_reached r Spent last s h e = let q : last ≡ s = cc in subst (Reached r) q h
-left_reached r (Stopped f) last s h e = absurd (no_some s e)
+left_reached r (Stopped f) last s h e = absurd (none-some s e)
 
 module _ (accepted : (file : List ℕ) → first_fault file ≡ None → first_violation (table_of file) ≡ None → (type : ℕ → Option Ty) × Checked (rule_of file) type) where
   loaded : (z : Option State) (x : Option Refusal) (file : List ℕ) (w : Runner) → refused file ≡ x → GoodRunner w → GoodRunner (load_after z x file w)

@@ -95,7 +95,7 @@ pub keeps_take : (l : ℕ) (cs : List Value) → Keeps cs (take l cs) l
 keeps_take l cs a t lt h = record { held = h.held; there = nth_take l a cs lt ∙ h.there; typed = h.typed }
 
 nth_append : (cs ds : List Value) (a : ℕ) (v : Value) → slice_get cs a ≡ Some v → slice_get (cs ++ ds) a ≡ Some v
-nth_append [] ds a v h = absurd (let z : ◌≡◌ {A = ℕ} 0 1 = cc in omega arith)
+nth_append [] ds a v h = absurd (grind arith)
 nth_append (c ∷ cs) ds zero v h = h
 nth_append (c ∷ cs) ds (suc a) v h = nth_append cs ds a v h
 

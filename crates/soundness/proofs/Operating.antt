@@ -1,5 +1,6 @@
 -- Operators on operands of the right type never go IllTyped, and give a value of their type.
 use Rattle.std.proofs.Common.{◌≡◌, ℕ, ◌-◌, ◌<◌, Bool, true, false, cond, eqb, ◌⊎◌, ℤ, Some, None, Option, sym, refl, ◌∙◌, inl, inr, arith, w32, w64, Ok, Err, Result}
+use Rattle.std.proofs.lemmas.Option.{none-some, same_Some}
 use mir.Syntax.{Width}
 use Rattle.std.proofs.lemmas.Bool.{true≢false}
 use Rattle.std.proofs.lemmas.Bool.Decides.{nat_tests}
@@ -22,15 +23,9 @@ Computes (Err IllTyped) t = ⊥
 no : {A : Type 0} → ◌≡◌ {A = Bool} false true → A
 no h = absurd (true≢false (sym h))
 
-none : {A : Type 0} (t : Ty) → ◌≡◌ {A = Option Ty} None (Some t) → A
-none t h = absurd (let z : ◌≡◌ {A = ℕ} 0 1 = cc in omega arith)
-
-same : (s m : Ty) → ◌≡◌ {A = Option Ty} (Some s) (Some m) → s ≡ m
-same s m h = cc
-
 -- what is_of s is_of m
 fits_as : (s m : Ty) (v : Value) → ◌≡◌ {A = Option Ty} (Some s) (Some m) → is_of (Some s) v ≡ true → is_of (Some m) v ≡ true
-fits_as s m v h f = rw (← (same s m h)) f
+fits_as s m v h f = rw (← (same_Some s m h)) f
 
 divided : (b : Bool) (m : Ty) (v : Value) → is_of (Some m) v ≡ true → Computes (cond b (Err ZeroDivisor) (Ok v)) (Some m)
 divided true m v f = tt
@@ -48,19 +43,19 @@ numbers_fit w make s m f AtMost x y h = fits_as ty.Bool m _ h refl
 numbers_fit w make s m f AtLeast x y h = fits_as ty.Bool m _ h refl
 numbers_fit w make s m f Equal x y h = fits_as ty.Bool m _ h refl
 numbers_fit w make s m f NotEqual x y h = fits_as ty.Bool m _ h refl
-numbers_fit w make s m f And x y h = none m h
-numbers_fit w make s m f Or x y h = none m h
+numbers_fit w make s m f And x y h = absurd (none-some m h)
+numbers_fit w make s m f Or x y h = absurd (none-some m h)
 
 truths_fit : (m : Ty) (p : Operator) (a b : Bool) → truth_type p ≡ Some m → Computes (on_truths p a b) (Some m)
-truths_fit m Add a b h = none m h
-truths_fit m Subtract a b h = none m h
-truths_fit m Multiply a b h = none m h
-truths_fit m Divide a b h = none m h
-truths_fit m Remainder a b h = none m h
-truths_fit m Less a b h = none m h
-truths_fit m Greater a b h = none m h
-truths_fit m AtMost a b h = none m h
-truths_fit m AtLeast a b h = none m h
+truths_fit m Add a b h = absurd (none-some m h)
+truths_fit m Subtract a b h = absurd (none-some m h)
+truths_fit m Multiply a b h = absurd (none-some m h)
+truths_fit m Divide a b h = absurd (none-some m h)
+truths_fit m Remainder a b h = absurd (none-some m h)
+truths_fit m Less a b h = absurd (none-some m h)
+truths_fit m Greater a b h = absurd (none-some m h)
+truths_fit m AtMost a b h = absurd (none-some m h)
+truths_fit m AtLeast a b h = absurd (none-some m h)
 truths_fit m Equal a b h = fits_as ty.Bool m _ h refl
 truths_fit m NotEqual a b h = fits_as ty.Bool m _ h refl
 truths_fit m And a b h = fits_as ty.Bool m _ h refl

@@ -127,13 +127,13 @@ if_goes_on r type cs m o l j f e g s v (inr (inr w), q) y =
 
 -- `&&` and `||` have truths
 and_sort : (s m : Ty) → operator_type s And ≡ Some m → (s ≡ ty.Bool) × (m ≡ ty.Bool)
-and_sort ty.Int m h = absurd (let z : ◌≡◌ {A = ℕ} 0 1 = cc in omega arith)
-and_sort ty.Long m h = absurd (let z : ◌≡◌ {A = ℕ} 0 1 = cc in omega arith)
+and_sort ty.Int m h = absurd (grind arith)
+and_sort ty.Long m h = absurd (grind arith)
 and_sort ty.Bool m h = (refl, cc)
 
 or_sort : (s m : Ty) → operator_type s Or ≡ Some m → (s ≡ ty.Bool) × (m ≡ ty.Bool)
-or_sort ty.Int m h = absurd (let z : ◌≡◌ {A = ℕ} 0 1 = cc in omega arith)
-or_sort ty.Long m h = absurd (let z : ◌≡◌ {A = ℕ} 0 1 = cc in omega arith)
+or_sort ty.Int m h = absurd (grind arith)
+or_sort ty.Long m h = absurd (grind arith)
 or_sort ty.Bool m h = (refl, cc)
 
 pub binary_starts : (r : Rule) (type : ℕ → Option Ty) (cs : List Value) (m : Meaning) (o : Open) → GoodBinary r type o.node → Stands r cs o → Right kind.Binary r type (started kind.Binary r o cs m) cs o

@@ -1,6 +1,7 @@
 // How a book of slips is made, and its calls.
-ghost use Rattle.std.specs.Prelude.{◌≡◌, ◌<◌, min, IfOk, Ok};
+ghost use Rattle.std.specs.Prelude.{◌≡◌, min, IfOk, Ok};
 ghost use Rattle.book.specs.Meanings.{with_room, done, left};
+ghost use Rattle.book.specs.Spots.{IsIn};
 ghost use Rattle.book_makes.specs.Slips.{slips_meaning, empty_slips};
 
 use super::SlipsBook;
@@ -27,7 +28,7 @@ impl SlipsBook {
 
     // Fills in the slip of a spot, anew where there is one.
     fn put_at(&mut self, spot: Spot, value: i32) -> Result<(), BookFault>
-        requires { (spot.column < 8) × (spot.lot < self.old.lots) }
+        requires { IsIn self.old.lots spot }
         ensures answer { result ≡ done (with_room (slips_meaning self.old) (Ok spot)) }
         ensures after { slips_meaning self.new ≡ left (slips_meaning self.old) value (with_room (slips_meaning self.old) (Ok spot)) }
     {

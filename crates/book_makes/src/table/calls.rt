@@ -1,6 +1,7 @@
 // How a table is made, and its calls.
 ghost use Rattle.std.specs.Prelude.{◌≡◌, ◌<◌, ◌≤◌, min, length, slice_set, Some, vec_len, IfOk};
 ghost use Rattle.book.specs.Meanings.{written};
+ghost use Rattle.book.specs.Spots.{IsIn};
 ghost use Rattle.book_makes.specs.Tables.{table_meaning, empty_table};
 
 use super::{Row, TableBook};
@@ -28,7 +29,7 @@ impl TableBook {
 
     // Sets the cell of a spot.
     fn write(&mut self, spot: Spot, value: i32)
-        requires { (spot.column < 8) × (spot.lot < vec_len self.old.rows) }
+        requires { IsIn (vec_len self.old.rows) spot }
         ensures { table_meaning self.new ≡ written (table_meaning self.old) spot value }
     {
         fill(&mut self.rows[spot.lot as usize], spot.column, value);
