@@ -6,7 +6,7 @@ pub struct Context {
     pub parent: usize,
     /// the scope that a declaration at its place is of
     pub scope: usize,
-    /// the method that it lies in, or 0
+    /// the method that it lies in; the program, node 0, where it lies in none
     pub method: usize,
     /// whether it lies in a for or a while
     pub looped: bool,

@@ -12,7 +12,7 @@ use crate::types::{
 use crate::violation::Violation;
 use nodes::kind::Kind;
 
-/// The rules in their order.
+/// The rules in their order, which is that of their numbers.
 const RULES: [Violation; 23] = [
     Violation::RepeatedName,
     Violation::Undeclared,
