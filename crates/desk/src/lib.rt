@@ -1,6 +1,6 @@
 // The desk: what a program does by its arguments. It looks at rule files, and works on books of lots by a script.
 //
-// Programs differ in what they say of a file and in their help; all else is here. Nothing is promised of what is printed.
+// Programs differ in what they say of a file, and in what their help says of that; all else is here. Nothing is promised of what is printed.
 #![tactic(auto)]
 
 use look::{Command, Program, Seen};
@@ -12,6 +12,7 @@ use std::process::ExitCode;
 use std::rt::{Env, Files};
 
 mod books;
+pub mod help;
 mod line_error;
 pub mod look;
 mod running;

@@ -3,6 +3,7 @@ ghost use Rattle.std.specs.Prelude.{◌≡◌, is_ok, if◌then◌else◌, IfOk}
 ghost use Rattle.desk.specs.declared.look.Seen.TheVariants.{Good, Refused};
 
 use crate::Desk;
+use crate::help::Help;
 use report::listing::Listing;
 use report::verdict::{Found, Reason, Verdict};
 use std::fs;
@@ -28,8 +29,8 @@ pub enum Seen {
 
 /// A program: what it says of a file, and how it is used.
 pub trait Program {
-    /// The help text.
-    fn help(&self) -> &'static str;
+    /// How its help text differs from that of other programs.
+    fn help(&self) -> Help;
 
     /// Prints what the command asks for of a file that was read.
     fn tell<R: Print>(&self, rt: &R, command: Command, path: &str, file: &[u8]) -> io::Result<Seen>;
