@@ -32,6 +32,7 @@ mod walk;
 pub const MOST_NODES: usize = 1024;
 
 /// The nodes of a file without a fault, and their contexts: the first `count` of each.
+// Kept: resolving cannot fail for memory, so the tables are arrays of the most nodes with a count.
 #[derive(Drop)]
 pub struct Resolved<'f> {
     pub reader: Reader<'f>,

@@ -3,7 +3,8 @@ ghost use Rattle.std.specs.Prelude.{◌≡◌, ℕ, ◌+◌, ◌<◌, ◌≤◌,
 ghost use Rattle.nodes.specs.Kinds.{between};
 ghost use Rattle.node_rules.specs.Tables.{kind_at, end};
 ghost use Rattle.node_rules.specs.Scopes.{declares, binding, meant, place, context};
-ghost use Rattle.names.specs.Walk.{Known, Ready, Entered, Walked, own};
+ghost use Rattle.names.specs.Walk.{Known, Ready, Entered, Walked};
+ghost use Rattle.names.specs.Visit.{Before, After};
 
 use crate::MOST_NODES;
 use crate::lookup::{cells_in_force, meaning};
@@ -16,6 +17,7 @@ use nodes::kind::Kind;
 use stack::push;
 
 // What the walk writes: the names in force, as a stack, and the context of each node.
+// Kept: walking cannot fail for memory, so both are arrays of the most nodes, and the stack's count is guarded apart.
 #[derive(Drop)]
 struct Names {
     bindings: [Binding; MOST_NODES],
@@ -81,8 +83,8 @@ fn declare(at: Place<'_>, names: &mut Names, used: usize) -> Binding
 // A node of any kind, and all below it.
 #[cycle(visiting)]
 fn visit(at: Place<'_>, names: &mut Names, count: &mut Count)
-    requires { Ready at.nodes.list.now names.old.bindings names.old.contexts count.old.used at.i }
-    ensures { Walked at.entry.nodes.list.now (end at.entry.nodes.list.now at.entry.i) (own at.entry.nodes.list.now at.entry.i) names.old.bindings count.old.used names.new.bindings names.new.contexts count.new.used }
+    requires { Before at names.old count.old }
+    ensures { After at.entry names.old count.old names.new count.new }
 {
     match at.node().kind {
         Kind::Import
@@ -116,9 +118,9 @@ fn visit(at: Place<'_>, names: &mut Names, count: &mut Count)
 // A declaration: its name is in force from here on. A method holds parameters and its body.
 #[cycle(visiting)]
 fn declaration(at: Place<'_>, names: &mut Names, count: &mut Count)
-    requires ready { Ready at.nodes.list.now names.old.bindings names.old.contexts count.old.used at.i }
+    requires ready { Before at names.old count.old }
     requires kind { declares at.nodes.list.now at.i ≡ true }
-    ensures { Walked at.entry.nodes.list.now (end at.entry.nodes.list.now at.entry.i) (own at.entry.nodes.list.now at.entry.i) names.old.bindings count.old.used names.new.bindings names.new.contexts count.new.used }
+    ensures { After at.entry names.old count.old names.new count.new }
 {
     let binding = declare(at, names, count.used);
     push(&mut names.bindings, &mut count.used, binding).unwrap();
@@ -128,9 +130,9 @@ fn declaration(at: Place<'_>, names: &mut Names, count: &mut Count)
 // A block: nothing of its own is named.
 #[cycle(visiting)]
 fn block(at: Place<'_>, names: &mut Names, count: &mut Count)
-    requires ready { Ready at.nodes.list.now names.old.bindings names.old.contexts count.old.used at.i }
+    requires ready { Before at names.old count.old }
     requires kind { kind_at at.nodes.list.now at.i ≡ 7 }
-    ensures { Walked at.entry.nodes.list.now (end at.entry.nodes.list.now at.entry.i) (own at.entry.nodes.list.now at.entry.i) names.old.bindings count.old.used names.new.bindings names.new.contexts count.new.used }
+    ensures { After at.entry names.old count.old names.new count.new }
 {
     enter(at, None, 0, names);
     children(at.nodes, at.i, names, count);
@@ -139,9 +141,9 @@ fn block(at: Place<'_>, names: &mut Names, count: &mut Count)
 // A statement: a for names its index.
 #[cycle(visiting)]
 fn statement(at: Place<'_>, names: &mut Names, count: &mut Count)
-    requires ready { Ready at.nodes.list.now names.old.bindings names.old.contexts count.old.used at.i }
+    requires ready { Before at names.old count.old }
     requires kind { (declares at.nodes.list.now at.i ≡ false) × (kind_at at.nodes.list.now at.i ≤ 16) }
-    ensures { Walked at.entry.nodes.list.now (end at.entry.nodes.list.now at.entry.i) (own at.entry.nodes.list.now at.entry.i) names.old.bindings count.old.used names.new.bindings names.new.contexts count.new.used }
+    ensures { After at.entry names.old count.old names.new count.new }
 {
     let node = at.node();
     let means = if node.kind == Kind::For {
@@ -156,9 +158,9 @@ fn statement(at: Place<'_>, names: &mut Names, count: &mut Count)
 // An expression or a string: locations, calls and len use a name.
 #[cycle(visiting)]
 fn expression(at: Place<'_>, names: &mut Names, count: &mut Count)
-    requires ready { Ready at.nodes.list.now names.old.bindings names.old.contexts count.old.used at.i }
+    requires ready { Before at names.old count.old }
     requires kind { 16 < kind_at at.nodes.list.now at.i }
-    ensures { Walked at.entry.nodes.list.now (end at.entry.nodes.list.now at.entry.i) (own at.entry.nodes.list.now at.entry.i) names.old.bindings count.old.used names.new.bindings names.new.contexts count.new.used }
+    ensures { After at.entry names.old count.old names.new count.new }
 {
     let node = at.node();
     let means = if node.kind.is_named_expression() {

@@ -4,7 +4,7 @@
 // the checker promises of the rules that it makes.
 #![tactic(auto)]
 
-ghost use Rattle.std.specs.Prelude.{◌≡◌};
+ghost use Rattle.std.specs.Prelude.{◌≡◌, if◌then◌else◌, slice_get, None, nat_lt};
 ghost use Rattle.rule.specs.Told.{node_in, meant_in, type_in, place_in, body_in};
 
 use layout::reader::Reader;
@@ -14,6 +14,7 @@ use node_rules::types::Ty;
 use nodes::node::Node;
 
 /// An accepted rule: its file, and of every node what it is, where it stands, what its name means, and its type.
+// Kept: checking cannot fail for memory, so the tables are arrays of the most nodes with a count.
 #[derive(Drop)]
 pub struct Rule<'f> {
     pub reader: Reader<'f>,
@@ -26,59 +27,50 @@ pub struct Rule<'f> {
     pub bodies: [usize; MOST_NODES],
 }
 
+// What a table with so many entries has at a place.
+fn entry<T: Copy>(table: &[T], count: usize, i: usize) -> Option<T>
+    ensures { result ≡ (if nat_lt i count then slice_get table.now i else None) }
+{
+    if i < count {
+        table.get(i).copied()
+    } else {
+        None
+    }
+}
+
 impl Rule<'_> {
     /// Node i.
     pub fn node(&self, i: usize) -> Option<Node>
         ensures { result ≡ node_in self.now i }
     {
-        if i < self.count && i < MOST_NODES {
-            Some(self.nodes[i])
-        } else {
-            None
-        }
+        entry(&self.nodes, self.count, i)
     }
 
     /// The declaration that node i's name means; at a declaration, what the name meant before it.
     pub fn meant(&self, i: usize) -> Option<usize>
         ensures { result ≡ meant_in self.now i }
     {
-        if i < self.count && i < MOST_NODES {
-            self.contexts[i].means
-        } else {
-            None
-        }
+        entry(&self.contexts, self.count, i)?.means
     }
 
     /// The type of node i, if it is an expression that has one.
     pub fn type_of(&self, i: usize) -> Option<Ty>
         ensures { result ≡ type_in self.now i }
     {
-        if i < self.count && i < MOST_NODES {
-            self.types[i]
-        } else {
-            None
-        }
+        entry(&self.types, self.count, i)?
     }
 
     /// The place of the first cell of the variable i: among the fields, or among the cells of its call.
     pub fn place(&self, i: usize) -> u64
         ensures { result ≡ place_in self.now i }
     {
-        if i < self.count && i < MOST_NODES {
-            self.contexts[i].place
-        } else {
-            0
-        }
+        entry(&self.contexts, self.count, i).map_or(0, |context| context.place)
     }
 
     /// The body block of the method i.
     pub fn body(&self, i: usize) -> usize
         ensures { result ≡ body_in self.now i }
     {
-        if i < self.count && i < MOST_NODES {
-            self.bodies[i]
-        } else {
-            0
-        }
+        entry(&self.bodies, self.count, i).unwrap_or(0)
     }
 }
