@@ -91,16 +91,24 @@ def crate(path):
     return path.split("/")[1]
 
 
+def comments_above(lines, n):
+    above = n
+    while above > 0 and lines[above - 1].strip().startswith(("//", "#[")):
+        above -= 1
+    return "\n".join(lines[above:n])
+
+
 def lines_with(pattern):
-    """Lines that hold a pattern, as places: the file, the line and whether a reason stands in the comments above it."""
+    """Lines that hold a pattern, as places. A reason may stand above the line, or above the item that it is in."""
     for path, text in SOURCES:
         lines = text.split("\n")
         for n, line in enumerate(lines):
             if re.search(pattern, line.split("//")[0]):
-                above = n
-                while above > 0 and lines[above - 1].strip().startswith(("//", "#[")):
-                    above -= 1
-                yield f"{path.removeprefix('crates/')}:{n + 1} {line.strip()}", "// Kept:" in "\n".join(lines[above:n])
+                item = n
+                while item > 0 and not re.match(r"(pub(\(crate\))? )?(struct|enum|fn|impl|trait|const)\b", lines[item]):
+                    item -= 1
+                kept = "// Kept:" in comments_above(lines, n) + comments_above(lines, item)
+                yield f"{path.removeprefix('crates/')}:{n + 1} {line.strip()}", kept
 
 
 def bodies_with(pattern):
@@ -123,7 +131,7 @@ NUMBERED = r"\b(kind|number\(\)|tag)\b[^=<>!\n]{0,3}(==|!=|<=|>=|<|>) *\d|\d+ *<
 
 
 def own_options():
-    yield from lines_with(r"^\s+(Nothing|Empty|Made|IllTyped)\b|^\s+Refused\(")
+    yield from lines_with(r"^\s+(Nothing|Empty|Made)\b|^\s+Refused\(")
     yield from heads_with(lambda f: re.fullmatch(r"(io::Result<)?bool>?( \{)?", f.result) and acts(f))
     yield from heads_with(lambda f: "Option<Finding<" in f.result or f.result.startswith("io::Result<Option<&'static str>"))
     yield from bodies_with(NUMBERED)
@@ -177,12 +185,15 @@ def index_loops():
 
 def by_hand():
     yield from bodies_with(r"^\s*(\w+(\.\w+\(\))? == \w+(\.\w+\(\))?|equal\(a, b\))\s*$")
-    yield from bodies_with(r"\d+ => (Some|Ok)\(")
+    yield from bodies_with(r"\d+ => Some\(")
     yield from bodies_with(r"match \(?\w+[\w, ]*\)? \{\n\s*(\w+::\w+|_?\(?\w*,? ?\w*::?\w*.*) => (true|false),")
     yield from bodies_with(r"\b(None|Err\(_\)) => (true|false|None|0),|Some\(\w+\) => Some\(")
     yield from bodies_with(r"(\w+::\w+(\(_\))? => \d+,\n\s*){2}|(\d+ => \"\",\n\s*){3}|(?<!\*)\bself as u\d")
     yield from heads_with(lambda f: f.code.count("println!") > 2)
-    yield from lines_with(r"derive\(Clone, Copy\)")
+    for path, text in SOURCES:
+        for found in re.finditer(r"((?: *//.*\n)*)#\[derive\(Clone, Copy\)\]\n(?:pub )?(?:struct|enum) (\w+)(<\w+>)? ?\{", text):
+            line = text[:found.start(2)].count("\n") + 1
+            yield f"{path.removeprefix('crates/')}:{line} {found.group(2)} derives no more than copying", "// Kept:" in found.group(1)
 
 
 def facts(f):
@@ -210,14 +221,14 @@ def travelling():
 
 
 def buffers():
-    yield from lines_with(r"^(?!const)(.*: |.*mut \w+ = |.*mut \w+: )\[[^\]]+; \w+\]")
-    yield from lines_with(r"^\s*(pub )?(used|count|last|left): (usize|u16|u32),|used: &mut usize")
+    yield from lines_with(r"^(?!\s*const)(.*: |.*mut \w+ = |.*mut \w+: )\[[^\]]+; \w+\]")
+    yield from lines_with(r"^\s*(pub )?(used|last|top): (usize|u16|u32),|^    pub count: usize,|used: &mut usize")
 
 
 def steps():
-    yield from lines_with(r"^(pub )?struct \w+;")
+    yield from lines_with(r"^struct \w+;")
     yield from lines_with(r"^trait \w+")
-    yield from lines_with(r"Command::\w+ =>")
+    yield from bodies_with(r"\bCommand::\w+ => println")
 
 
 def proofs():
