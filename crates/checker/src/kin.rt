@@ -109,6 +109,7 @@ fn find_block(nodes: Nodes<'_>, i: usize) -> usize
 }
 
 /// The body block of node i, where it is a method; else 0.
+#[tactic(auto, unfolding(node_rules::specs::Scopes::body))]
 pub(crate) fn body_of(nodes: Nodes<'_>, i: usize) -> usize
     ensures { result ≡ body nodes.entry.list.now i }
 {

@@ -63,6 +63,7 @@ fn earlier(
 
 impl Resolution<'_> {
     // The context of node i.
+    #[tactic(auto, using(crate::proofs::Placing::placed))]
     fn context(self, i: usize) -> Context
         requires { i < length self.nodes.list.now }
         ensures { Placed self.entry.nodes.list.now i result }
@@ -71,6 +72,7 @@ impl Resolution<'_> {
     }
 
     // Whether the scope of the declaration i has its name already.
+    #[tactic(auto, unfolding(node_rules::specs::Scopes::repeated))]
     fn is_repeated(self, i: usize) -> bool
         requires { i < length self.nodes.list.now }
         ensures { result ≡ repeated self.entry.nodes.list.now i }

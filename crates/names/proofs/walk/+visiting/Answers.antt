@@ -1,10 +1,10 @@
 use Rattle.std.proofs.Common.{◌≡◌, ◌≤◌, true, false, ◌||◌, eqb, take, None, sym, refl, ap, ◌∙◌, arith, rules}
 use Rattle.nodes.specs.Kinds.{number, between}
 use Rattle.nodes.specs.declared.node.Node.{Node}
-use Rattle.node_rules.specs.Tables.{kind_at, end}
+use Rattle.node_rules.specs.Tables.{kind_at}
 use Rattle.node_rules.specs.Scopes.{declares, uses, chosen, node_of}
 use Rattle.names.proofs.Contexts.{means_told, no_place, statement_named, expression_named, expression_plain}
-use Rattle.names.proofs.Walking.{entered_plain, entered_own, pushed_own, walked_plain, walked_own, turning_first, turning_child, turning_next, turning_done}
+use Rattle.names.proofs.Walking.{entered_plain, entered_own, pushed_own, turning_first, turning_child, turning_next, turning_done}
 use Rattle.names.proofs.walk.+visiting.Goals as goal
 use Rattle.names.proofs.walk.+visiting.Goals.{statement-then-eq, statement-else-eq, expression-then-is_named_expression, expression-else-is_named_expression}
 
@@ -23,14 +23,6 @@ block-children-requires t c =
     let k : kind_at ns at.i ≡ 7 = c.requires.kind in
     let d : declares ns at.i ≡ false = rw k refl in
     (omega arith, (at.inside, entered_plain ns at.nodes.nested _ _ _ at.i at.parent at.inside at.child c.requires.ready _ _ d c.enter.ensures.bindings c.enter.ensures.contexts))
-
-pub block-returns : goal.block-returns
-block-returns t c =
-    let at = c.args.at in
-    let ns = at.nodes.list.now in
-    let k : kind_at ns at.i ≡ 7 = c.requires.kind in
-    let d : declares ns at.i ≡ false = rw k refl in
-    walked_plain ns (end ns at.i) at.i _ _ _ _ _ _ d c.enter.ensures.bindings c.children.ensures
 
 pub statement-enter-requires-clause-told : goal.statement-enter-requires-clause-told
 statement-enter-requires-clause-told t c =
@@ -53,11 +45,6 @@ statement-children-requires t c =
     let at = c.args.at in
     (omega arith, (at.inside, entered_plain at.nodes.list.now at.nodes.nested _ _ _ at.i at.parent at.inside at.child c.requires.ready _ _ c.requires.kind.0 c.enter.ensures.bindings c.enter.ensures.contexts))
 
-pub statement-returns : goal.statement-returns
-statement-returns t c =
-    let ns = c.args.at.nodes.list.now in
-    walked_plain ns (end ns c.args.at.i) c.args.at.i _ _ _ _ _ _ c.requires.kind.0 c.enter.ensures.bindings c.children.ensures
-
 pub expression-enter-requires-clause-told : goal.expression-enter-requires-clause-told
 expression-enter-requires-clause-told t c =
     let ns = c.args.at.nodes.list.now in
@@ -77,11 +64,6 @@ expression-children-requires t c =
     let ns = at.nodes.list.now in
     (omega arith, (at.inside, entered_plain ns at.nodes.nested _ _ _ at.i at.parent at.inside at.child c.requires.ready _ _ (expression_plain (kind_at ns at.i) c.requires.kind) c.enter.ensures.bindings c.enter.ensures.contexts))
 
-pub expression-returns : goal.expression-returns
-expression-returns t c =
-    let ns = c.args.at.nodes.list.now in
-    walked_plain ns (end ns c.args.at.i) c.args.at.i _ _ _ _ _ _ (expression_plain (kind_at ns c.args.at.i) c.requires.kind) c.enter.ensures.bindings c.children.ensures
-
 pub declaration-children-requires : goal.declaration-children-requires
 declaration-children-requires t c =
     let at = c.args.at in
@@ -89,14 +71,6 @@ declaration-children-requires t c =
     let e = c.declare-binding.ensures in
     let p = pushed_own ns at.nodes.nested _ _ _ _ at.i c.push.result _ _ _ at.inside c.requires.ready e.bindings e.binding c.push.ensures in
     (omega arith, (at.inside, entered_own ns at.nodes.nested _ _ _ at.i at.parent at.inside at.child c.requires.ready _ _ _ c.requires.kind p.3 p.1 p.2 e.contexts))
-
-pub declaration-returns : goal.declaration-returns
-declaration-returns t c =
-    let at = c.args.at in
-    let ns = at.nodes.list.now in
-    let e = c.declare-binding.ensures in
-    let p = pushed_own ns at.nodes.nested _ _ _ _ at.i c.push.result _ _ _ at.inside c.requires.ready e.bindings e.binding c.push.ensures in
-    walked_own ns (end ns at.i) at.i _ _ _ _ _ _ _ c.requires.kind p.1 p.2 c.children.ensures
 
 pub children-loop-j-init : goal.children-loop-j-init
 children-loop-j-init t c =
