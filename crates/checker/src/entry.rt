@@ -8,6 +8,9 @@ use layout::reader::Reader;
 use names::nested::Nodes;
 use nodes::kind::Kind;
 
+/// The tag of a method that gives no value.
+const VOID: u8 = 0;
+
 // Whether the name of this number is main.
 fn is_called_main(reader: &Reader, name: u8) -> bool
     ensures { result ≡ spells (codes "main") (text_at (names (file_of reader.now)) name) }
@@ -23,7 +26,7 @@ fn is_main(reader: &Reader, nodes: Nodes<'_>, m: usize) -> bool
 {
     let node = nodes.node(m);
     node.kind == Kind::Method
-        && node.tag == 0
+        && node.tag == VOID
         && nodes.node(m.saturating_add(1)).kind != Kind::Parameter
         && is_called_main(reader, node.name)
 }

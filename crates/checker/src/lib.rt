@@ -31,7 +31,7 @@ mod kin;
 mod pass;
 
 /// Why a file is refused: a fault of its layout, or a violation of the rules.
-#[derive(Clone, Copy)]
+#[derive(Clone, Copy, PartialEq, Eq, Debug)]
 pub enum Refusal {
     Fault(Finding<FileFault>),
     Violation(Finding<Violation>),
@@ -45,6 +45,7 @@ impl From<Finding<FileFault>> for Refusal {
     }
 }
 
+// Kept: a conversion for each of the two causes, as `?` needs them.
 impl From<Finding<Violation>> for Refusal {
     ghost from_gives = { λ violation refused. refused ≡ refusal.Violation violation };
 
@@ -85,6 +86,7 @@ fn judge<'f>(resolved: Resolved<'f>) -> Result<Rule<'f>, Finding<Violation>>
         },
         contexts: &contexts,
     };
+    // Kept: checking cannot fail for memory, so the types are an array of the most nodes.
     let mut types = [None; MOST_NODES];
     study(&reader, resolution, &mut types)?;
     let bodies = find_bodies(resolution.nodes);

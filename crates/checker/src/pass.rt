@@ -50,6 +50,7 @@ fn is_matching(nodes: Nodes<'_>, types: &[Option<Ty>], i: usize, means: Option<u
 }
 
 // What was found at node i, before what was found later.
+// Kept: a broken rule ends nothing here, since the types of all nodes are written down, so it is a value and no error.
 fn earlier(
     i: usize,
     broken: Option<Violation>,
@@ -107,6 +108,7 @@ impl Resolution<'_> {
     }
 
     // The first broken rule of all nodes; on the way the types of all nodes are written down.
+    // Kept: as above; and node i is told by its number, since its type goes in among those that are read.
     fn first_broken(
         self,
         main: bool,

@@ -37,6 +37,7 @@ pub trait Program {
 }
 
 /// Prints what the command asks for of a file: the verdict on it, and before that, to show it, all that it holds.
+// Kept: a line of a script holds its command too, so a command is a value, and no closure.
 pub fn print_verdict<R: Print, G: Found, E: Reason>(
     rt: &R,
     command: Command,

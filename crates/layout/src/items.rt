@@ -2,7 +2,7 @@
 ghost use Rattle.std.specs.Prelude.{◌≡◌, ◌+◌, ◌<◌, min, length, slice_get, slice_index};
 ghost use Rattle.std.specs.Iterator.{YieldsFirstRef, item_count};
 ghost use Rattle.layout.specs.Items.{split, text_at};
-ghost use Rattle.layout.specs.Readers.{Stepped, Shows, pending};
+ghost use Rattle.layout.specs.Readers.{Shows, pending};
 
 use nodes::bytes::tail;
 

@@ -67,6 +67,7 @@ impl<'a> Reader<'a> {
     }
 
     // The names with their length bytes, as one window.
+    // Kept: the three bodies differ by one number, and each is one line over `body_at`.
     fn name_body(&self) -> &'a [u8]
         ensures { result.now ≡ name_body (file_of self.now) }
     {
@@ -74,6 +75,7 @@ impl<'a> Reader<'a> {
     }
 
     // The strings with their length bytes, as one window.
+    // Kept: as above.
     fn string_body(&self) -> &'a [u8]
         ensures { result.now ≡ string_body (file_of self.now) }
     {
@@ -109,6 +111,7 @@ impl<'a> Reader<'a> {
     }
 
     /// The strings, each with its length byte.
+    // Kept: names and strings are read by name, each call one line over the items of its body.
     pub fn strings(&self) -> Items<'a>
         ensures { pending result ≡ strings (file_of self.now) }
     {
@@ -123,6 +126,7 @@ impl<'a> Reader<'a> {
     }
 
     /// The bytes of string `k`.
+    // Kept: as above.
     pub fn string(&self, k: u32) -> Option<&'a [u8]>
         ensures { Shows result (text_at (strings (file_of self.now)) k) }
     {

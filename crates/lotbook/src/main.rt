@@ -18,6 +18,7 @@ const HELP: Help = Help {
 };
 
 /// The program, which looks at the layout of a rule file alone.
+// Kept: a program has its help and its look at a file, the one a text and the other generic, so it is no closure.
 struct Lotbook;
 
 impl Program for Lotbook {

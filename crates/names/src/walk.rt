@@ -25,7 +25,8 @@ struct Names {
 }
 
 // How many names are in force.
-#[derive(Clone, Copy)]
+// Kept: a guard holds the count alone, and sets it back, while the stack's slots are read and written.
+#[derive(Clone, Copy, PartialEq, Eq, Debug)]
 struct Count {
     used: usize,
 }
@@ -210,6 +211,7 @@ pub(crate) fn find_contexts(nodes: Nodes<'_>) -> [Context; MOST_NODES]
         node: 0,
         cells: 0,
     };
+    // Kept: as at the struct.
     let mut names = Names {
         bindings: [unused; MOST_NODES],
         contexts: [vacant; MOST_NODES],

@@ -67,12 +67,14 @@ fn is_array(means: Option<Declared>) -> bool
     means.is_none_or(|d| d.kind == Kind::ArrayDeclaration)
 }
 
+// Kept: each of these tests is one line, by the name of its definition.
 fn is_callable(means: Option<Declared>) -> bool
     ensures { result ≡ names_callable means }
 {
     means.is_none_or(|d| matches!(d.kind, Kind::Import | Kind::Method))
 }
 
+// Kept: each of these tests is one line, by the name of its definition.
 fn is_method(means: Option<Declared>) -> bool
     ensures { result ≡ names_method means }
 {
@@ -123,6 +125,7 @@ impl Facts {
         self.node.kind.declares_name()
     }
 
+    // Kept: each of these tests is one line, by the name of its definition.
     fn is_use(&self) -> bool
         ensures { result ≡ is_use self.now }
     {
@@ -158,6 +161,7 @@ impl Facts {
         self.operation() == Some(Operation::Equality)
     }
 
+    // Kept: each of these tests is one line, by the name of its definition.
     fn is_logical(&self) -> bool
         ensures { result ≡ is_logical self.now }
     {
@@ -216,6 +220,7 @@ impl Facts {
         are_one_type(self.held.first, self.held.second)
     }
 
+    // Kept: each of these tests is one line, by the name of its definition.
     fn are_one_number(&self) -> bool
         ensures { result ≡ of_one_number self.now }
     {

@@ -32,6 +32,7 @@ impl TryFrom<u8> for Ty {
     }
 }
 
+// Kept: that a tag has no type and that a number has no kind are two sentences.
 impl fmt::Display for UnknownType {
     fn fmt<W: fmt::Write>(&self, f: &mut fmt::Formatter<W>) -> fmt::Result {
         write!(f, "no type has the tag {}", self.0)

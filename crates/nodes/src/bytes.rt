@@ -55,6 +55,7 @@ pub fn u16_at(bytes: &[u8], at: u32) -> u16
 }
 
 /// The number of four bytes.
+// Kept: the width is in the type that is asked for, so each of the three is one line.
 pub fn u32_at(bytes: &[u8], at: u32) -> u32
     ensures { result ≡ le32 bytes.now at }
 {
@@ -62,6 +63,7 @@ pub fn u32_at(bytes: &[u8], at: u32) -> u32
 }
 
 /// The signed number of eight bytes.
+// Kept: as above.
 pub(crate) fn i64_at(bytes: &[u8], at: u32) -> i64
     ensures { result ≡ le64 bytes.now at }
 {

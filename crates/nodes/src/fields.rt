@@ -76,6 +76,9 @@ impl Kind {
     }
 }
 
+/// The tag of a literal of type bool.
+const BOOL: u8 = 3;
+
 // From 0 to below the limit.
 fn is_under(value: i64, limit: u32) -> bool
     ensures { result ≡ under value limit }
@@ -89,7 +92,7 @@ fn value_fits(rule: Value, tag: u8, strings: u32, value: i64) -> bool
     match rule {
         Value::Zero => is_under(value, 1),
         Value::Free => true,
-        Value::Typed => tag != 3 || is_under(value, 2),
+        Value::Typed => tag != BOOL || is_under(value, 2),
         Value::StringNumber => is_under(value, strings),
     }
 }
@@ -120,8 +123,5 @@ fn row_fits(row: Fields, names: u32, strings: u32, bytes: &[u8]) -> bool
 pub fn bad_fields(names: u32, strings: u32, bytes: &[u8]) -> bool
     ensures { result ≡ bad_fields names strings bytes.now }
 {
-    match Kind::try_from(byte(bytes, 0)) {
-        Ok(kind) => !row_fits(kind.fields(), names, strings, bytes),
-        Err(_) => true,
-    }
+    !Kind::try_from(byte(bytes, 0)).is_ok_and(|kind| row_fits(kind.fields(), names, strings, bytes))
 }

@@ -4,7 +4,7 @@ use checker::Refusal;
 use finding::Finding;
 
 /// How a go ends.
-#[derive(Clone, Copy)]
+#[derive(Clone, Copy, PartialEq, Eq, Debug)]
 pub enum Ending {
     Finished,
     /// a node is next to begin, and the budget is used up
@@ -14,7 +14,7 @@ pub enum Ending {
 }
 
 /// Why a call is refused.
-#[derive(Clone, Copy)]
+#[derive(Clone, Copy, PartialEq, Eq, Debug)]
 pub enum Denial {
     /// a load or a begin while a rule is under way
     UnderWay,
@@ -25,7 +25,7 @@ pub enum Denial {
 }
 
 /// What a call answers that is not refused.
-#[derive(Clone, Copy)]
+#[derive(Clone, Copy, PartialEq, Eq, Debug)]
 pub enum Answer {
     /// a load, a begin or a close was done
     Done,

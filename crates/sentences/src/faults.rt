@@ -1,4 +1,5 @@
 // What a fault of the layout is called: the thing that it lies in, and what is wrong with it.
+use crate::at::At;
 use finding::Finding;
 use layout::fault::FileFault;
 use layout::items::Items;
@@ -7,21 +8,23 @@ use nodes::bytes::{byte, tail};
 use nodes::fields::Value;
 use nodes::kind::Kind;
 use nodes::node::Node;
-use std::iter;
 use texts::spelling::{is_identifier, is_string_text};
 use wording::text::{Phrase, Piece, Sentence, Three};
-use wording::words::MOST_NODES;
 use wording::{outline, words};
 
 /// The sentence on a fault.
 pub fn sentence<'a>(reader: Reader<'a>, finding: Finding<FileFault>) -> Sentence<'a> {
-    Sentence::two(subject(reader, finding), claim(reader, finding))
+    let at = At {
+        reader,
+        i: finding.place,
+    };
+    Sentence::two(subject(at, finding.cause), claim(at, finding.cause))
 }
 
 // What a fault lies in: a name, a string or a node, or the file as a whole.
-fn subject<'a>(reader: Reader<'a>, finding: Finding<FileFault>) -> Phrase<'a> {
-    let place = finding.place;
-    match finding.cause {
+fn subject<'a>(at: At<'a>, cause: FileFault) -> Phrase<'a> {
+    let place = at.i;
+    match cause {
         FileFault::FileSize | FileFault::Edition | FileFault::BodyOrder | FileFault::NodeCount => {
             Phrase::one(Piece::Words("the "))
         }
@@ -32,28 +35,28 @@ fn subject<'a>(reader: Reader<'a>, finding: Finding<FileFault>) -> Phrase<'a> {
         FileFault::NodeFields
         | FileFault::NodeSize
         | FileFault::NodeChildren
-        | FileFault::NodeDepth => { node_place(reader, place) }
+        | FileFault::NodeDepth => { node_place(at) }
     }
 }
 
 // A node by its number, its kind and its depth.
-fn node_place<'a>(reader: Reader<'a>, i: u32) -> Phrase<'a> {
-    let noun = match reader.node(i as usize) {
+fn node_place<'a>(at: At<'a>) -> Phrase<'a> {
+    let noun = match at.node() {
         Some(node) => words::noun(node.kind),
         None => "of no known kind",
     };
-    let depth = outline::depth(reader.node_body(), i);
+    let depth = outline::depth(at.reader.node_body(), at.i);
     Three(
-        Piece::Number("node ", i as i64, ", "),
+        Piece::Number("node ", at.i as i64, ", "),
         Piece::Words(noun),
         Piece::count(" at depth ", depth, ", has "),
     )
 }
 
 // What is wrong with it.
-fn claim<'a>(reader: Reader<'a>, finding: Finding<FileFault>) -> Phrase<'a> {
-    let place = finding.place;
-    match finding.cause {
+fn claim<'a>(at: At<'a>, cause: FileFault) -> Phrase<'a> {
+    let At { reader, i: place } = at;
+    match cause {
         FileFault::FileSize => Three(
             Piece::Words("file has "),
             words::file_size(reader.file()),
@@ -66,9 +69,9 @@ fn claim<'a>(reader: Reader<'a>, finding: Finding<FileFault>) -> Phrase<'a> {
         FileFault::NameText => Phrase::one(name_text(reader.name(place).unwrap_or(&[]))),
         FileFault::NameRepeated => repeated(reader, place),
         FileFault::StringText => Phrase::one(string_text(item_at(reader.strings(), place))),
-        FileFault::NodeFields => field(reader, place),
-        FileFault::NodeSize => size(reader, place),
-        FileFault::NodeChildren => children(reader, place),
+        FileFault::NodeFields => field(at),
+        FileFault::NodeSize => size(at),
+        FileFault::NodeChildren => children(at),
         FileFault::NodeDepth => Phrase::one(Piece::Words("no place there: 64 is the deepest")),
     }
 }
@@ -194,8 +197,8 @@ fn string_text<'a>(item: &'a [u8]) -> Piece<'a> {
 }
 
 // The first field of a node's record that its kind does not allow.
-fn field<'a>(reader: Reader<'a>, i: u32) -> Phrase<'a> {
-    let record = reader.record(i as usize).unwrap_or(&[]);
+fn field<'a>(at: At<'a>) -> Phrase<'a> {
+    let record = at.record();
     let Some(node) = Node::decode(record) else {
         let kind = byte(record, 0) as i64;
         return Phrase::one(Piece::Number("the kind ", kind, ", which does not exist"));
@@ -205,7 +208,7 @@ fn field<'a>(reader: Reader<'a>, i: u32) -> Phrase<'a> {
         let tag = node.tag as i64;
         return Phrase::one(Piece::Number("the tag ", tag, ", which its kind does not allow"));
     }
-    if let Some(why) = against_name(fields.named, node.name, reader.names().count()) {
+    if let Some(why) = against_name(fields.named, node.name, at.reader.names().count()) {
         return Phrase::one(Piece::Number("the name number ", node.name as i64, why));
     }
     if let Some(at) = stray_byte(record) {
@@ -243,49 +246,34 @@ fn against_value(rule: Value) -> &'static str {
     }
 }
 
-fn size<'a>(reader: Reader<'a>, i: u32) -> Phrase<'a> {
-    let nodes = reader.node_body();
-    let size = outline::size_of(nodes, i) as i64;
-    if i == 0 {
-        let all = Piece::count(", and node 0 spans all ", reader.node_count(), " nodes");
+fn size<'a>(at: At<'a>) -> Phrase<'a> {
+    let size = outline::size_of(at.reader.node_body(), at.i) as i64;
+    if at.i == 0 {
+        let all = Piece::count(", and node 0 spans all ", at.reader.node_count(), " nodes");
         return Phrase::two(Piece::Number("the size ", size, ""), all);
     }
     if size == 0 {
         return Phrase::one(Piece::Words("the size 0, and a node spans itself at least"));
     }
-    let parent = outline::parent(nodes, i);
+    let parent = at.parent();
     Three(
         Piece::Number("the size ", size, ""),
-        Piece::Number(", and its parent, node ", parent as i64, ""),
-        Piece::count(", ends before node ", outline::end_of(nodes, parent), ""),
+        Piece::Number(", and its parent, node ", parent.i as i64, ""),
+        Piece::count(", ends before node ", parent.end(), ""),
     )
 }
 
-fn children<'a>(reader: Reader<'a>, i: u32) -> Phrase<'a> {
-    let kind = match reader.node(i as usize) {
-        Some(node) => node.kind,
-        None => Kind::Program,
-    };
-    if i == 0 && kind != Kind::Program {
+fn children<'a>(at: At<'a>) -> Phrase<'a> {
+    let kind = at.node().map_or(Kind::Program, |node| node.kind);
+    if at.i == 0 && kind != Kind::Program {
         return Phrase::one(Piece::Words("the place of the program, and is none"));
     }
     Phrase::two(
         Piece::count(
             "children of a wrong kind, order or number, ",
-            child_count(reader, i),
+            at.child_count(),
             " in all: it should have ",
         ),
         Piece::Words(words::children(kind)),
     )
-}
-
-// How many children a node has by the sizes. No more are counted than a rule has nodes, so that sizes of 0 do no harm.
-fn child_count(reader: Reader, i: u32) -> usize {
-    let end = outline::end_of(reader.node_body(), i);
-    iter::successors(Some(i as usize + 1), |child| {
-        Some(child.saturating_add(reader.node(*child)?.size as usize))
-    })
-    .take_while(|child| *child < end && reader.node(*child).is_some())
-    .take(MOST_NODES as usize)
-    .count()
 }

@@ -4,5 +4,6 @@
 // the crates that examine a file to say.
 #![tactic(auto)]
 
+mod at;
 pub mod faults;
 pub mod violations;

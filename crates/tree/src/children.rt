@@ -96,6 +96,5 @@ fn do_children_fit(nodes: &[u8], i: u16) -> bool
 pub(crate) fn has_bad_children(nodes: &[u8], i: u16) -> bool
     ensures { result ≡ bad_children nodes.now i }
 {
-    !do_children_fit(nodes, i)
-        || i == 0 && byte(nodes, 16 * i as usize) != u8::from(Kind::Program)
+    !do_children_fit(nodes, i) || i == 0 && byte(nodes, 16 * i as usize) != u8::from(Kind::Program)
 }

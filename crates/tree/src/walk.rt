@@ -28,6 +28,7 @@ impl Met {
 
 /// A walk over the nodes after node 0, in their order. Node 0 is at the bottom of the stack, and above each node is one that has it
 /// for its parent. No node above the top one and below the next spans the next.
+// Kept: a check cannot fail for memory, so the stack is an array of the most nodes with the place of its top.
 #[derive(Drop)]
 pub(crate) struct Walk<'a> {
     body: Body<'a>,
@@ -54,6 +55,7 @@ impl<'a> Walk<'a> {
         Walk {
             body,
             next: 1,
+            // Kept: as at the struct.
             stack: [0; MOST_NODES],
             top: 0,
         }
@@ -66,6 +68,7 @@ impl<'a> Walk<'a> {
         end_of(self.body.nodes, u32::from(self.stack[self.top]))
     }
 
+    // Kept: how far the top goes down is known only on the way, so no range or iterator says it.
     // Leaves the nodes that do not span the next one. The top one is then its parent.
     fn close(&mut self)
         ensures parent { slice_index self.new.stack self.new.top ≡ parent (end_of self.new.body.nodes.now) self.new.next }
