@@ -31,7 +31,7 @@ mod kin;
 mod pass;
 
 /// Why a file is refused: a fault of its layout, or a violation of the rules.
-#[derive(Clone, Copy)]
+#[derive(Clone, Copy, PartialEq, Eq, Debug)]
 pub enum Refusal {
     Fault(Finding<FileFault>),
     Violation(Finding<Violation>),
