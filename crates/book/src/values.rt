@@ -16,7 +16,7 @@ pub struct Entry {
 }
 
 /// All values of a book, by lot and then by column. `Err` says that memory is wanting.
-// Kept: the lots of a book are numbers, and no list that an iterator could go over.
+// Kept: a `for` over the range of lots is plain, and leaves by `?` where memory is wanting.
 pub fn values<B: Book>(heap: Global, book: &B) -> Result<Vec<Entry>, AllocError>
     ensures { IfOk result (λ found. found.items ≡ all_values (B.Book.meaning book.now)) }
 {

@@ -12,7 +12,7 @@ pub mod calls;
 /// filled in are free. No two slips are of one column and lot.
 ///
 /// The slips that are filled in are a map from spots to values. It has room from the first for as many as there can be, so a put
-/// asks for no memory.
+/// asks for no memory. `put` and `get` take a look-up in the map.
 #[derive(Drop)]
 pub struct SlipsBook {
     lots: u32,

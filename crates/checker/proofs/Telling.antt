@@ -12,11 +12,12 @@ use Rattle.node_rules.specs.Scopes.{body, context}
 use Rattle.node_rules.specs.Rules.{first_violation}
 use Rattle.node_rules.specs.declared.types.Ty.{Ty}
 use Rattle.node_rules.specs.declared.violation.Violation.{Violation}
-use Rattle.checker.specs.Kin.{TypedFrom, refused}
+use Rattle.checker.specs.Kin.{TypedFrom}
+use Rattle.finding.specs.Checks.{passes_unless}
 use Rattle.checker.specs.Checked.{Tells, Accepted}
 
 -- nothing is refused where there is no first violation
-pub lawful : (o : Option (Finding Violation)) (u : ⊤) → refused o ≡ Ok u → o ≡ None
+pub lawful : (o : Option (Finding Violation)) (u : ⊤) → passes_unless o ≡ Ok u → o ≡ None
 lawful None u e = refl
 lawful (Some finding) u e = cc
 

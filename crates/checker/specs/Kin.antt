@@ -1,4 +1,4 @@
--- Types that are known, and what is refused: inner contracts of the pass over the nodes.
+-- Types that are known: inner contracts of the pass over the nodes.
 use Rattle.std.specs.Prelude.{◌≡◌, ℕ, ◌<◌, ◌≤◌, Bool, ◌||◌, List, length, Some, None, Ok, Err, Option, Result, ⊤, slice_index_or}
 use Rattle.finding.specs.declared.Finding.{Finding}
 use Rattle.nodes.specs.declared.node.Node.{Node}
@@ -42,8 +42,3 @@ pub record Placed (ns : List Node) (i : ℕ) (c : Context) : Type 0 where
   pub parent_inside : c.parent < length ns
   pub method_inside : c.method < length ns
   pub means_inside : (d : ℕ) → c.means ≡ Some d → d < length ns
-
--- What is answered where a first violation is looked for.
-abbrev pub refused : Option (Finding Violation) → Result ⊤ (Finding Violation)
-refused None = Ok tt
-refused (Some finding) = Err finding

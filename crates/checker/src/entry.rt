@@ -31,7 +31,7 @@ fn is_main(reader: &Reader, nodes: Nodes<'_>, m: usize) -> bool
         && is_called_main(reader, node.name)
 }
 
-/// Whether one is among the program's children.
+/// Whether a void method main without parameters is among the program's children.
 pub(crate) fn has_main(reader: &Reader, nodes: Nodes<'_>) -> bool
     ensures { result ≡ has_main nodes.entry.list.now (names (file_of reader.now)) }
 {

@@ -14,52 +14,19 @@ use node_rules::types::{Ty, is_asked, type_of_tag};
 use nodes::kind::Kind;
 use nodes::node::Node;
 
-// The type of node j, as far as it is told.
-fn told(types: &[Option<Ty>], j: usize) -> Option<Ty>
-    ensures { result ≡ told types.now j }
-{
-    *types.get(j)?
+/// The nodes of a rule, and their types as far as they are told.
+#[derive(Clone, Copy)]
+pub(crate) struct Typing<'n> {
+    pub nodes: Nodes<'n>,
+    pub types: &'n [Option<Ty>],
 }
 
-// The type of the child of node i that has k others before it.
-fn type_of_child(nodes: Nodes<'_>, types: &[Option<Ty>], i: usize, k: usize) -> Option<Ty>
-    ensures { result ≡ told_of types.now (slice_get (parts nodes.entry.list.now i) k) }
-{
-    told(types, nodes.children(i).nth(k)?)
-}
-
-// Whether node j has a type, or is a string, which needs none.
-fn is_typed(nodes: Nodes<'_>, types: &[Option<Ty>], j: usize) -> bool
-    ensures { result ≡ is_typed nodes.entry.list.now types.now j }
-{
-    nodes.node(j).kind == Kind::Text || told(types, j).is_some()
-}
-
-// Whether each child of node i is.
-fn are_typed(nodes: Nodes<'_>, types: &[Option<Ty>], i: usize) -> bool
-    ensures { result ≡ list_all (is_typed nodes.entry.list.now types.now) (parts nodes.entry.list.now i) }
-{
-    nodes.children(i).all(|j| is_typed(nodes, types, j))
-}
-
+// Kept: `Nodes` is of the crate below, so what only the checker asks of a node's children are functions over it.
 // How many children node i has.
 fn count_children(nodes: Nodes<'_>, i: usize) -> usize
     ensures { result ≡ length (parts nodes.entry.list.now i) }
 {
     nodes.children(i).count()
-}
-
-/// How many children node i has, the types of the first two, and whether each expression among them has one.
-#[tactic(auto, using(crate::proofs::Kinship::held_is))]
-pub(crate) fn gather(nodes: Nodes<'_>, types: &[Option<Ty>], i: usize) -> Held
-    ensures { result ≡ held nodes.entry.list.now (told types.now) (parts nodes.entry.list.now i) }
-{
-    Held {
-        count: count_children(nodes, i),
-        first: type_of_child(nodes, types, i, 0),
-        second: type_of_child(nodes, types, i, 1),
-        typed: are_typed(nodes, types, i),
-    }
 }
 
 // Whether a child of a method is a parameter that takes an argument of this type.
@@ -69,23 +36,66 @@ fn does_take(parameter: Node, ty: Option<Ty>) -> bool
     parameter.kind == Kind::Parameter && is_asked(type_of_tag(parameter.tag), ty)
 }
 
-/// Whether the children of the method m and the call i match: each argument fits a parameter, and none is left over.
-pub(crate) fn do_match(nodes: Nodes<'_>, types: &[Option<Ty>], m: usize, i: usize) -> bool
-    ensures { result ≡ matches nodes.entry.list.now (told types.now) (parts nodes.entry.list.now m) (parts nodes.entry.list.now i) }
-{
-    let mut parameters = nodes.children(m);
-    for j in nodes.children(i) {
-        let Some(p) = parameters.next() else {
-            return false;
-        };
-        if !does_take(nodes.node(p), told(types, j)) {
-            return false;
+impl Typing<'_> {
+    // The type of node j, as far as it is told.
+    fn told(self, j: usize) -> Option<Ty>
+        ensures { result ≡ told self.entry.types.now j }
+    {
+        *self.types.get(j)?
+    }
+
+    // The type of the child of node i that has k others before it.
+    fn type_of_child(self, i: usize, k: usize) -> Option<Ty>
+        ensures { result ≡ told_of self.entry.types.now (slice_get (parts self.entry.nodes.list.now i) k) }
+    {
+        self.told(self.nodes.children(i).nth(k)?)
+    }
+
+    // Whether node j has a type, or is a string, which needs none.
+    fn is_typed(self, j: usize) -> bool
+        ensures { result ≡ is_typed self.entry.nodes.list.now self.entry.types.now j }
+    {
+        self.nodes.node(j).kind == Kind::Text || self.told(j).is_some()
+    }
+
+    // Whether each child of node i has a type, or is a string.
+    fn are_typed(self, i: usize) -> bool
+        ensures { result ≡ list_all (is_typed self.entry.nodes.list.now self.entry.types.now) (parts self.entry.nodes.list.now i) }
+    {
+        self.nodes.children(i).all(|j| self.is_typed(j))
+    }
+
+    /// How many children node i has, the types of the first two, and whether each expression among them has one.
+    #[tactic(auto, using(crate::proofs::Kinship::held_is))]
+    pub(crate) fn gather(self, i: usize) -> Held
+        ensures { result ≡ held self.entry.nodes.list.now (told self.entry.types.now) (parts self.entry.nodes.list.now i) }
+    {
+        Held {
+            count: count_children(self.nodes, i),
+            first: self.type_of_child(i, 0),
+            second: self.type_of_child(i, 1),
+            typed: self.are_typed(i),
         }
     }
-    let Some(p) = parameters.next() else {
-        return true;
-    };
-    nodes.node(p).kind != Kind::Parameter
+
+    /// Whether the children of the method m and the call i match: each argument fits a parameter, and none is left over.
+    pub(crate) fn do_match(self, m: usize, i: usize) -> bool
+        ensures { result ≡ matches self.entry.nodes.list.now (told self.entry.types.now) (parts self.entry.nodes.list.now m) (parts self.entry.nodes.list.now i) }
+    {
+        let mut parameters = self.nodes.children(m);
+        for j in self.nodes.children(i) {
+            let Some(p) = parameters.next() else {
+                return false;
+            };
+            if !does_take(self.nodes.node(p), self.told(j)) {
+                return false;
+            }
+        }
+        let Some(p) = parameters.next() else {
+            return true;
+        };
+        self.nodes.node(p).kind != Kind::Parameter
+    }
 }
 
 /// The cells of the program's own variables.
@@ -99,6 +109,7 @@ pub(crate) fn sum_cells(nodes: Nodes<'_>) -> u64
 }
 
 // The first block among the children of node i, or 0.
+// Kept: the definitions give 0 where there is none, node 0 being the program, which is no body.
 fn find_block(nodes: Nodes<'_>, i: usize) -> usize
     ensures { result ≡ first_block nodes.entry.list.now (parts nodes.entry.list.now i) }
 {

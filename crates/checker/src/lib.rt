@@ -11,7 +11,8 @@ ghost use Rattle.layout.specs.Readers.{file_of};
 ghost use Rattle.names.specs.Resolved.{NamesTold};
 ghost use Rattle.node_rules.specs.Tables.{nodes_of, table_of};
 ghost use Rattle.node_rules.specs.Rules.{first_violation};
-ghost use Rattle.checker.specs.Kin.{TypedFrom, refused};
+ghost use Rattle.checker.specs.Kin.{TypedFrom};
+ghost use Rattle.finding.specs.Checks.{passes_unless};
 ghost use Rattle.checker.specs.Checked.{Judging, Checking};
 ghost use Rattle.checker.specs.declared.Refusal.TheVariants as refusal;
 
@@ -62,7 +63,7 @@ fn study(
     types: &mut [Option<Ty>; MOST_NODES],
 ) -> Result<(), Finding<Violation>>
     requires { resolution.nodes.list.now ≡ nodes_of (file_of reader.now) }
-    ensures first { result ≡ refused (first_violation (table_of (file_of reader.now))) }
+    ensures first { result ≡ passes_unless (first_violation (table_of (file_of reader.now))) }
     ensures types { TypedFrom (table_of (file_of reader.now)) types.new 0 }
 {
     let main = has_main(reader, resolution.nodes);

@@ -4,9 +4,10 @@ ghost use Rattle.names.specs.Walk.{Known};
 ghost use Rattle.node_rules.specs.Tables.{parts};
 ghost use Rattle.node_rules.specs.Scopes.{repeated, body};
 ghost use Rattle.node_rules.specs.Rules.{declared, matching, facts, found, first_from, or_cells, first_violation};
-ghost use Rattle.checker.specs.Kin.{told, table, TypedFrom, Placed, refused};
+ghost use Rattle.checker.specs.Kin.{told, table, TypedFrom, Placed};
+ghost use Rattle.finding.specs.Checks.{passes_unless};
 
-use crate::kin::{body_of, do_match, gather, sum_cells};
+use crate::kin::{Typing, body_of, sum_cells};
 use finding::Finding;
 use names::MOST_NODES;
 use names::nested::Nodes;
@@ -40,13 +41,13 @@ fn declared_at(nodes: Nodes<'_>, means: Option<usize>) -> Option<Declared>
 }
 
 // Whether the arguments of node i match the parameters of the method that it means.
-fn is_matching(nodes: Nodes<'_>, types: &[Option<Ty>], i: usize, means: Option<usize>) -> bool
-    ensures { result ≡ matching nodes.entry.list.now (told types.now) (parts nodes.entry.list.now i) means }
+fn is_matching(typing: Typing<'_>, i: usize, means: Option<usize>) -> bool
+    ensures { result ≡ matching typing.entry.nodes.list.now (told typing.entry.types.now) (parts typing.entry.nodes.list.now i) means }
 {
     let Some(m) = means else {
         return true;
     };
-    do_match(nodes, types, m, i)
+    typing.do_match(m, i)
 }
 
 // What was found at node i, before what was found later.
@@ -62,6 +63,7 @@ fn earlier(
     broken.map(|rule| Finding::new(i as u32, rule)).or(later)
 }
 
+// Kept: that node i is there is asked of each call, since the same nodes are asked for any i.
 impl Resolution<'_> {
     // The context of node i.
     #[tactic(auto, using(crate::proofs::Placing::placed))]
@@ -91,6 +93,7 @@ impl Resolution<'_> {
         ensures { result ≡ facts (table self.entry.nodes.list.now main) (told types.now) i }
     {
         let nodes = self.nodes;
+        let typing = Typing { nodes, types };
         let context = self.context(i);
         let parent = self.context(context.parent);
         Facts {
@@ -98,8 +101,8 @@ impl Resolution<'_> {
             repeats: self.is_repeated(i),
             main,
             means: declared_at(nodes, context.means),
-            held: gather(nodes, types, i),
-            matching: is_matching(nodes, types, i, context.means),
+            held: typing.gather(i),
+            matching: is_matching(typing, i, context.means),
             parent: nodes.node(context.parent).kind,
             callee: declared_at(nodes, parent.means),
             result: type_of_tag(nodes.node(context.method).tag),
@@ -108,7 +111,7 @@ impl Resolution<'_> {
     }
 
     // The first broken rule of all nodes; on the way the types of all nodes are written down.
-    // Kept: as above; and node i is told by its number, since its type goes in among those that are read.
+    // Kept: it goes on past a broken rule, since all types are written down; and by numbers, since the types above i are read as i's goes in.
     fn first_broken(
         self,
         main: bool,
@@ -134,7 +137,7 @@ impl Resolution<'_> {
         main: bool,
         types: &mut [Option<Ty>; MOST_NODES],
     ) -> Result<(), Finding<Violation>>
-        ensures first { result ≡ refused (first_violation (table self.entry.nodes.list.now main)) }
+        ensures first { result ≡ passes_unless (first_violation (table self.entry.nodes.list.now main)) }
         ensures types { TypedFrom (table self.entry.nodes.list.now main) types.new 0 }
     {
         match self.first_broken(main, types) {
@@ -146,7 +149,7 @@ impl Resolution<'_> {
 
 // Refused where the program's own variables need too many cells.
 fn check_cells(cells: u64) -> Result<(), Finding<Violation>>
-    ensures { result ≡ refused (or_cells cells None) }
+    ensures { result ≡ passes_unless (or_cells cells None) }
 {
     if cells > MOST_CELLS {
         return Err(Finding::new(0, Violation::TooManyCells));

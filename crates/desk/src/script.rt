@@ -20,7 +20,7 @@ pub(crate) enum Line<'a> {
     Look(Command, &'a str),
 }
 
-/// What a line says, or nothing where it is blank or begins with `#`. It is `NoLine` by an unknown word, a word too few or too
+/// What a line says, or nothing where it is blank or begins with `#`. It is `NoLine` for an unknown word, a word too few or too
 /// many, or a number that does not fit.
 pub(crate) fn parse(line: &str) -> Result<Option<Line<'_>>, LineError> {
     if line.starts_with('#') {

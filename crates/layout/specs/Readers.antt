@@ -13,6 +13,11 @@ file_of r = r.file.now
 abbrev pub pending : Items → List (List ℕ)
 pending it = items it.left it.rest.now
 
+-- One item was taken from the row, or there was none.
+abbrev pub Stepped : Option (Bor (List ℕ)) → List (List ℕ) → List (List ℕ) → Type 0
+Stepped None before after = (before ≡ []) × (after ≡ [])
+Stepped (Some item) before after = (before ≡ item.now ∷ after) × (0 < length item.now)
+
 -- A window shows exactly these bytes, and there is none where there are none to show.
 abbrev pub Shows : Option (Bor (List ℕ)) → Option (List ℕ) → Type 0
 Shows None bytes = bytes ≡ None

@@ -2,7 +2,7 @@
 ghost use Rattle.std.specs.Prelude.{◌≡◌, ◌+◌, ◌<◌, min, length, slice_get, slice_index};
 ghost use Rattle.std.specs.Iterator.{YieldsFirstRef, item_count};
 ghost use Rattle.layout.specs.Items.{split, text_at};
-ghost use Rattle.layout.specs.Readers.{Shows, pending};
+ghost use Rattle.layout.specs.Readers.{Stepped, Shows, pending};
 
 use nodes::bytes::tail;
 
@@ -26,6 +26,13 @@ impl<'a> Items<'a> {
             rest: body,
             left: MOST,
         }
+    }
+
+    /// The next item, with its length byte. It says more than `next`: no item is empty.
+    pub fn next_item(&mut self) -> Option<&'a [u8]>
+        ensures { Stepped result (pending self.old) (pending self.new) }
+    {
+        self.next()
     }
 
     /// How many items are to come.

@@ -2,6 +2,7 @@
 //
 // Proved: these are the end, the depth and the parent that the definitions of the format give. A body of nodes may be
 // damaged: past its end every size reads as 0, so there is an answer for every node number.
+// Kept: a body and a node's number are all that each call needs, and nothing holds of the two; who asks more of a node has a struct of its own.
 ghost use Rattle.std.specs.Prelude.{◌≡◌, ◌+◌, ◌*◌, length, unwrap_or, nat_lt};
 ghost use Rattle.nodes.specs.Bytes.{le16};
 ghost use Rattle.layout.specs.Faults.{end_of};
@@ -54,6 +55,7 @@ fn innermost(nodes: &[u8], i: u32) -> Option<u32>
 }
 
 /// The innermost lower node that spans node `i`; 0 where there is none.
+// Kept: the definitions of parents give 0 there, node 0 being around all others.
 pub fn parent(nodes: &[u8], i: u32) -> u32
     ensures { result ≡ parent (end_of nodes.now) i }
 {

@@ -75,7 +75,7 @@ impl<'a> Reader<'a> {
     }
 
     // The strings with their length bytes, as one window.
-    // Kept: as above.
+    // Kept: one line over `body_at`, as for the names.
     fn string_body(&self) -> &'a [u8]
         ensures { result.now ≡ string_body (file_of self.now) }
     {
@@ -126,7 +126,7 @@ impl<'a> Reader<'a> {
     }
 
     /// The bytes of string `k`.
-    // Kept: as above.
+    // Kept: one line over the items of its body, as for the names.
     pub fn string(&self, k: u32) -> Option<&'a [u8]>
         ensures { Shows result (text_at (strings (file_of self.now)) k) }
     {

@@ -1,4 +1,4 @@
-// Lotbook on the command line: checks rule files, shows what they hold, and works on books of lots by a script.
+// Lotbook on the command line: checks the layout of rule files, shows what they hold, and works on books of lots by a script.
 #![tactic(auto)]
 
 use desk::help::Help;

@@ -45,11 +45,6 @@ known_more ns cs i k l j h =
       | inr le ↦ let q : j ≡ i = omega arith in rw q (rw get_or-set_same refl)
     ]
 
--- the parent's parent, read from what is known
-pub outer_known : (ns : List Node) (cs : List Context) (i p : ℕ) → Known ns cs i → p < i → (get_or cs p vacant).parent ≡ above ns p
-unfolding context
-outer_known ns cs i p k l = ap (λ x. x.parent) (k p l)
-
 -- and a node's own scope
 pub scope_known : (ns : List Node) (cs cs' : List Context) (i : ℕ) → i < length cs → cs' ≡ set cs i (context ns i) → (get_or cs' i vacant).scope ≡ scope ns i
 unfolding context

@@ -178,7 +178,3 @@ picked_few t f (suc n) =
     let r = picked_few t f n in
     let l : length (cond (t n) (f n ∷ []) []) ≤ 1 = cond_both (t n) (f n ∷ []) [] (λ xs. length xs ≤ 1) (λ _. omega arith) (λ _. omega arith) in
     simp length-append (omega arith)
-
-pub in_force_few : (ns : List Node) (i : ℕ) → length (in_force ns i) ≤ i
-unfolding in_force
-in_force_few ns i = picked_few _ _ i

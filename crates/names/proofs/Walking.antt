@@ -1,5 +1,5 @@
 -- The walk from node to node: what is known at one gives what is known at the next.
-use Rattle.std.proofs.Common.{◌≡◌, ℕ, zero, suc, ◌+◌, ◌<◌, ◌≤◌, Bool, true, false, cond, Ok, Err, Result, List, [], ◌∷◌, ◌++◌, length, get_or, take, set, replicate, sym, refl, ap, ◌∙◌, subst, append-nil, inl, inr, arith}
+use Rattle.std.proofs.Common.{◌≡◌, ℕ, zero, suc, ◌+◌, ◌<◌, ◌≤◌, true, false, cond, Ok, Err, Result, List, [], ◌∷◌, ◌++◌, length, get_or, take, set, replicate, sym, refl, ap, ◌∙◌, subst, append-nil, inl, inr, arith}
 use lib.ListN.{length-replicate}
 use lib.Seq.{take-append-le}
 use Rattle.std.proofs.lemmas.List.{take-take, length-take-le, length-set}
@@ -66,29 +66,6 @@ pushed_own ns n bs bs₁ cs used i taken b bs' used' inside r q e h =
     let fits = r.fits in
     let h₁ = subst (λ (xs : List Binding). Pushed taken xs used b bs' used') q h in
     pushed taken bs used (binding ns i) bs' used' (omega arith) (subst (λ (x : Binding). Pushed taken bs used x bs' used') e h₁)
-
--- what a node's children leave, seen from before the node
-pub walked_plain : (ns : List Node) (m i used : ℕ) (bs bs₁ bs' : List Binding) (cs' : List Context) (used' : ℕ) → declares ns i ≡ false → bs₁ ≡ bs → Walked ns m [] bs₁ used bs' cs' used' → Walked ns m (own ns i) bs used bs' cs' used'
-walked_plain ns m i used bs bs₁ bs' cs' used' d b w =
-    let o : own ns i ≡ [] = ap (λ x. cond x (binding ns i ∷ []) []) d in
-    record {
-      room = w.room;
-      count = w.count ∙ ap (λ xs. used + length xs) (sym o);
-      names = w.names ∙ ap (λ xs. take used xs ++ []) b ∙ ap (λ xs. take used bs ++ xs) (sym o);
-      known = w.known;
-    }
-
-pub walked_own : (ns : List Node) (m i used used₁ : ℕ) (bs bs₁ bs' : List Binding) (cs' : List Context) (used' : ℕ) → declares ns i ≡ true → used₁ ≡ used + 1 → take used₁ bs₁ ≡ take used bs ++ binding ns i ∷ [] → Walked ns m [] bs₁ used₁ bs' cs' used' → Walked ns m (own ns i) bs used bs' cs' used'
-walked_own ns m i used used₁ bs bs₁ bs' cs' used' d u t w =
-    let o : own ns i ≡ binding ns i ∷ [] = ap (λ x. cond x (binding ns i ∷ []) []) d in
-    let k = w.count in
-    let q : length (own ns i) ≡ 1 = ap length o in
-    record {
-      room = w.room;
-      count = omega arith;
-      names = w.names ∙ append-nil (take used₁ bs₁) ∙ t ∙ ap (λ xs. take used bs ++ xs) (sym o);
-      known = w.known;
-    }
 
 -- The children of node i below node j are done; bs₀ is from before them.
 pub record Going (ns : List Node) (i : ℕ) (bs₀ : List Binding) (mark j : ℕ) (bs : List Binding) (cs : List Context) (used : ℕ) : Type 0 where

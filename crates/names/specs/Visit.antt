@@ -5,7 +5,7 @@ use Rattle.names.specs.declared.place.Place.{Place}
 use Rattle.names.specs.declared.walk.Names.{Names}
 use Rattle.names.specs.declared.walk.Count.{Count}
 
--- The names in force before the node are in use, and the contexts of all below it are written.
+-- The names in force before the node are in use, and the contexts of all lower nodes are written.
 abbrev pub Before : Place → Names → Count → Type 0
 Before at names count = Ready at.nodes.list.now names.bindings names.contexts count.used at.i
 

@@ -32,7 +32,8 @@ mod walk;
 pub const MOST_NODES: usize = 1024;
 
 /// The nodes of a file without a fault, and their contexts: the first `count` of each.
-// Kept: resolving cannot fail for memory, so the tables are arrays of the most nodes with a count.
+// Kept: resolving cannot fail for memory, so the tables are arrays of the most nodes with a count; and the nodes are lent as one slice,
+// which an array of one struct for each node could not give.
 #[derive(Drop)]
 pub struct Resolved<'f> {
     pub reader: Reader<'f>,

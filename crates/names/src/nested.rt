@@ -8,6 +8,7 @@ use nodes::kind::Kind;
 use nodes::node::Node;
 
 /// What stands past the last node: a node that spans nothing.
+// Kept: the definitions read this node there, so a node is always one.
 pub(crate) const BLANK: Node = Node {
     kind: Kind::Program,
     tag: 0,

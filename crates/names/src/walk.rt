@@ -81,6 +81,8 @@ fn declare(at: Place<'_>, names: &mut Names, used: usize) -> Binding
     }
 }
 
+// Kept: names and count are two parameters of each visit, since the guard holds the count alone. What each asks and leaves is said
+// in two words, `Before` and `After`, for the recursion has no one place for it.
 // A node of any kind, and all below it.
 #[cycle(visiting)]
 fn visit(at: Place<'_>, names: &mut Names, count: &mut Count)
@@ -193,6 +195,7 @@ fn children(nodes: Nodes<'_>, i: usize, names: &mut Names, count: &mut Count)
 }
 
 /// The contexts of all nodes.
+// Kept: what is made here are the arrays of `Names`, for the reason there.
 pub(crate) fn find_contexts(nodes: Nodes<'_>) -> [Context; MOST_NODES]
     ensures known { Known nodes.entry.list.now result (length nodes.entry.list.now) }
     ensures long { length result ≡ 1024 }
@@ -211,7 +214,6 @@ pub(crate) fn find_contexts(nodes: Nodes<'_>) -> [Context; MOST_NODES]
         node: 0,
         cells: 0,
     };
-    // Kept: as at the struct.
     let mut names = Names {
         bindings: [unused; MOST_NODES],
         contexts: [vacant; MOST_NODES],

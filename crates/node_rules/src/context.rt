@@ -7,6 +7,7 @@ pub struct Context {
     /// the scope that a declaration at its place is of
     pub scope: usize,
     /// the method that it lies in; the program, node 0, where it lies in none
+    // Kept: the definition of methods gives node 0 there, which is no method.
     pub method: usize,
     /// whether it lies in a for or a while
     pub looped: bool,

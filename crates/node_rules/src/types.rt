@@ -1,4 +1,5 @@
 // The types of the language, where one may be missing.
+// Kept: two types that are compared are two parameters, as with `==`.
 ghost use Rattle.std.specs.Prelude.{◌≡◌};
 ghost use Rattle.node_rules.specs.Types.{Tells, tagged, fits, fits_asked, both_fit, of_one_number_type, of_one_type};
 

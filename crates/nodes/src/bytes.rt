@@ -1,4 +1,5 @@
 // Windows and fields of a row of bytes. Past the end a byte reads as 0, and a window is cut at the end.
+// Kept: a row and a place in it are what every reader of numbers takes, and no more goes with them.
 ghost use Rattle.std.specs.Prelude.{◌≡◌, ℕ, ◌+◌, ◌<◌, drop, slice_index};
 ghost use Rattle.nodes.specs.Bytes.{byte, window, le16, le32, le64};
 
@@ -63,7 +64,7 @@ pub fn u32_at(bytes: &[u8], at: u32) -> u32
 }
 
 /// The signed number of eight bytes.
-// Kept: as above.
+// Kept: one line by the width of its type, as for four bytes.
 pub(crate) fn i64_at(bytes: &[u8], at: u32) -> i64
     ensures { result ≡ le64 bytes.now at }
 {

@@ -42,7 +42,7 @@ fn part_words<'a>(words: &'static str, part: Part) -> Phrase<'a> {
     Phrase::two(offset, Piece::Number(", length ", part.length as i64, "\n"))
 }
 
-// The texts of items, each with its number and in such quotes.
+// The texts of items, each with its number and between two quotes or none.
 #[derive(Drop)]
 struct Texts<'a>(Items<'a>, &'static str);
 

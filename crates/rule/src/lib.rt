@@ -14,7 +14,8 @@ use node_rules::types::Ty;
 use nodes::node::Node;
 
 /// An accepted rule: its file, and of every node what it is, where it stands, what its name means, and its type.
-// Kept: checking cannot fail for memory, so the tables are arrays of the most nodes with a count.
+// Kept: checking cannot fail for memory, so the tables are arrays of the most nodes with a count. Contexts and types are written while
+// the nodes are read as one slice, so they are arrays of their own.
 #[derive(Drop)]
 pub struct Rule<'f> {
     pub reader: Reader<'f>,
@@ -60,14 +61,16 @@ impl Rule<'_> {
         entry(&self.types, self.count, i)?
     }
 
-    /// The place of the first cell of the variable i: among the fields, or among the cells of its call.
+    /// The place of the first cell of the variable i: among the fields, or among the cells of its call. 0 for any other node.
+    // Kept: the definitions of places and bodies are numbers, 0 where there is none.
     pub fn place(&self, i: usize) -> u64
         ensures { result ≡ place_in self.now i }
     {
         entry(&self.contexts, self.count, i).map_or(0, |context| context.place)
     }
 
-    /// The body block of the method i.
+    /// The body block of the method i. 0 for any other node, as node 0 is no body.
+    // Kept: as for places.
     pub fn body(&self, i: usize) -> usize
         ensures { result ≡ body_in self.now i }
     {

@@ -73,7 +73,7 @@ impl<'a> At<'a> {
         }
     }
 
-    /// The lowest node that declares the name of a declaration in its scope, below it.
+    /// The lowest node that declares the name of a declaration in its scope, if a lower one does.
     pub(crate) fn lower_namesake(self) -> Option<u32> {
         let name = self.node()?.name;
         let scope = self.scope();

@@ -12,6 +12,7 @@ use layout::reader::Reader;
 pub(crate) const MOST_NODES: usize = 1024;
 
 /// The nodes of a file that has 1 to 1,024, as one window, and how many they are.
+// Kept: the window counts bytes, and `len` the nodes.
 #[derive(Clone, Copy)]
 pub(crate) struct Body<'a> {
     pub(crate) reader: Reader<'a>,

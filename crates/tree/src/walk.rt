@@ -28,7 +28,8 @@ impl Met {
 
 /// A walk over the nodes after node 0, in their order. Node 0 is at the bottom of the stack, and above each node is one that has it
 /// for its parent. No node above the top one and below the next spans the next.
-// Kept: a check cannot fail for memory, so the stack is an array of the most nodes with the place of its top.
+// Kept: a check cannot fail for memory, so the stack is an array of the most nodes. Node 0 never leaves it, so its top is always a place,
+// which push and pop would have as a number that may be 0.
 #[derive(Drop)]
 pub(crate) struct Walk<'a> {
     body: Body<'a>,
@@ -68,8 +69,8 @@ impl<'a> Walk<'a> {
         end_of(self.body.nodes, u32::from(self.stack[self.top]))
     }
 
-    // Kept: how far the top goes down is known only on the way, so no range or iterator says it.
     // Leaves the nodes that do not span the next one. The top one is then its parent.
+    // Kept: how far the top goes down is known only on the way, so no range or iterator says it.
     fn close(&mut self)
         ensures parent { slice_index self.new.stack self.new.top ≡ parent (end_of self.new.body.nodes.now) self.new.next }
         ensures body { self.new.body ≡ self.old.body }

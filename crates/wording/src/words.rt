@@ -1,4 +1,5 @@
 // Words for what a rule file holds: kinds, tags, names and strings.
+// Kept: a node is a plain value, and only the text of a name or a string is asked of its file.
 use crate::text::{Phrase, Piece, Three};
 use layout::reader::Reader;
 use nodes::bytes::byte;
@@ -165,6 +166,7 @@ pub fn node_words<'a>(reader: Reader<'a>, record: &[u8]) -> (&'static str, Phras
     }
 }
 
+// Kept: a tag is any byte of the file, and 0 where the kind has none.
 fn tag_of<'a>(node: Node) -> Piece<'a> {
     match tag_word(node.kind, node.tag) {
         Some(word) => Piece::Words(word),
