@@ -33,6 +33,13 @@ def files(ending, folder):
                 yield name, open(os.path.join(ROOT, name), encoding="utf-8").read()
 
 
+def comments_above(lines, n):
+    above = n
+    while above > 0 and lines[above - 1].strip().startswith(("//", "#[")):
+        above -= 1
+    return "\n".join(lines[above:n])
+
+
 class Function:
     """A function: its file, name, parameters, result, clauses and body, and whether a reason to keep it stands beside it."""
 
@@ -75,11 +82,12 @@ def functions(path, text):
         for line in lines[begin:opening + 1]:
             (clauses if re.match(r"\s*(requires|ensures)\b", line) else head).append(line.strip())
         body = "\n".join(lines[opening + 1:at])
-        above = begin
-        while above > 0 and lines[above - 1].strip().startswith(("//", "#[")):
-            above -= 1
+        block = begin
+        while indent and block > 0 and not lines[block].startswith(("impl", "trait", "pub trait")):
+            block -= 1
         if not lines[opening].rstrip().endswith(";"):
-            yield Function(path, begin + 1, name, " ".join(head), clauses, body, "\n".join(lines[above:begin]))
+            above = comments_above(lines, begin) + (comments_above(lines, block) if indent else "")
+            yield Function(path, begin + 1, name, " ".join(head), clauses, body, above)
         at += 1
 
 
@@ -91,23 +99,19 @@ def crate(path):
     return path.split("/")[1]
 
 
-def comments_above(lines, n):
-    above = n
-    while above > 0 and lines[above - 1].strip().startswith(("//", "#[")):
-        above -= 1
-    return "\n".join(lines[above:n])
-
-
-def lines_with(pattern):
-    """Lines that hold a pattern, as places. A reason may stand above the line, or above the item that it is in."""
+def lines_with(pattern, beside=""):
+    """Lines that hold a pattern, of files with what stands beside it. A reason may stand above the line, its item or the file."""
     for path, text in SOURCES:
+        if not re.search(beside, text):
+            continue
         lines = text.split("\n")
         for n, line in enumerate(lines):
             if re.search(pattern, line.split("//")[0]):
                 item = n
                 while item > 0 and not re.match(r"(pub(\(crate\))? )?(struct|enum|fn|impl|trait|const)\b", lines[item]):
                     item -= 1
-                kept = "// Kept:" in comments_above(lines, n) + comments_above(lines, item)
+                head = re.match(r"(//.*\n)*", text).group()
+                kept = "// Kept:" in comments_above(lines, n) + comments_above(lines, item) + head
                 yield f"{path.removeprefix('crates/')}:{n + 1} {line.strip()}", kept
 
 
@@ -205,24 +209,24 @@ def facts(f):
 
 
 def travelling():
-    seen, pairs = collections.defaultdict(set), collections.defaultdict(set)
+    """A reason may stand at the head of the file, at the functions or at what comes before them."""
+    seen = collections.defaultdict(list)
     for f in FUNCTIONS:
         for fact in set(facts(f)):
-            seen[crate(f.path), fact].add(f.name)
+            seen[crate(f.path), f"the fact {fact}"].append(f)
         names = [re.sub(r"^mut ", "", p) for p in f.parameters if ":" in p]
         for a, b in zip(names, names[1:]):
-            pairs[crate(f.path), f"{a}, {b}"].add(f.name)
-    for (where, fact), users in sorted(seen.items()):
-        if len(users) >= 3:
-            yield f"{where}: the fact {fact} in {len(users)} functions", False
-    for (where, pair), users in sorted(pairs.items()):
-        if len(users) >= 3:
-            yield f"{where}: the parameters {pair} of {len(users)} functions", False
+            seen[crate(f.path), f"the parameters {a}, {b}"].append(f)
+    heads = {path: re.match(r"(//.*\n)*", text).group() for path, text in SOURCES}
+    for (where, what), users in sorted(seen.items(), key=lambda x: x[0]):
+        if len({f.name for f in users}) >= 3:
+            kept = any(f.kept or "// Kept:" in heads[f.path] for f in users)
+            yield f"{where}: {what} in {len({f.name for f in users})} functions", kept
 
 
 def buffers():
     yield from lines_with(r"^(?!\s*const)(.*: |.*mut \w+ = |.*mut \w+: )\[[^\]]+; \w+\]")
-    yield from lines_with(r"^\s*(pub )?(used|last|top): (usize|u16|u32),|^    pub count: usize,|used: &mut usize")
+    yield from lines_with(r"^\s*(pub )?(used|last|top): (usize|u16|u32),|^    pub count: usize,|used: &mut usize", "; MOST_NODES]|&mut usize")
 
 
 def steps():
