@@ -7,6 +7,19 @@ use Rattle.book_makes.proofs.Filling.{on_ok, anew, first, inside}
 use Rattle.book_makes.proofs.Counting.{room_left}
 use Rattle.book_makes.proofs.slips.SlipsBook.put_at.Goals as goal
 
+pub invariant_of-self : goal.invariant_of-self
+invariant_of-self c =
+    let b = c.args.self.now in
+    let v = to_z w32 (of_z w32 c.args.value) in
+    let written = c.get_mut.follows.holds v in
+    let writes = written.3 (search rules) in
+    record {
+      few = b.few;
+      within = search rules;
+      inside = inside b.lots 0 b.slips (c.get_mut.follows.lender v) c.args.spot v writes.0 b.lots c.requires.0 c.requires.1 b.inside;
+      room = search rules;
+    }
+
 pub invariant_of-self-2 : goal.invariant_of-self-2
 invariant_of-self-2 c =
     let b = c.args.self.now in
