@@ -1,6 +1,5 @@
 -- Types that are known: inner contracts of the pass over the nodes.
-use Rattle.std.specs.Prelude.{◌≡◌, ℕ, ◌<◌, ◌≤◌, Bool, ◌||◌, List, length, Some, None, Ok, Err, Option, Result, ⊤, slice_index_or}
-use Rattle.finding.specs.declared.Finding.{Finding}
+use Rattle.std.specs.Prelude.{◌≡◌, ℕ, ◌<◌, ◌≤◌, Bool, ◌||◌, List, length, Some, None, Option, slice_index_or}
 use Rattle.nodes.specs.declared.node.Node.{Node}
 use Rattle.nodes.specs.declared.kind.Kind.TheVariants.{Text}
 use Rattle.node_rules.specs.Tables.{Table, node}
@@ -9,7 +8,6 @@ use Rattle.node_rules.specs.Types.{has_type}
 use Rattle.node_rules.specs.Rules.{same_kind, type_of}
 use Rattle.node_rules.specs.declared.context.Context.{Context}
 use Rattle.node_rules.specs.declared.types.Ty.{Ty}
-use Rattle.node_rules.specs.declared.violation.Violation.{Violation}
 
 -- The types that a table gives.
 abbrev pub told : List (Option Ty) → ℕ → Option Ty
