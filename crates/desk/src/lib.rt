@@ -3,7 +3,7 @@
 // Programs differ in what they say of a file, and in what their help says of that; all else is here. Nothing is promised of what is printed.
 #![tactic(auto)]
 
-use look::{Command, Program, Seen};
+use look::{Command, Program, Seen, UnknownCommand};
 use std::env;
 use std::env::Args;
 use std::io::{self, Eprint, Print};
@@ -60,14 +60,15 @@ impl<R: Files + Env + Print + Eprint + AllocGlobal, P: Program> Desk<'_, R, P> {
                 print!(self.rt; "{}", self.program.help())?;
                 Ok(ExitCode::SUCCESS)
             }
-            "check" | "show" if count == 2 => self.refuse("no file was given"),
             "run" => match (words.next(), words.next()) {
                 (Some(script), None) => self.run_script(script.as_str()),
                 _ => self.refuse("run takes one script"),
             },
-            "check" => self.look_at_all(Command::Check, words),
-            "show" => self.look_at_all(Command::Show, words),
-            _ => self.refuse("there is no such command"),
+            word => match word.parse::<Command>() {
+                Ok(_) if count == 2 => self.refuse("no file was given"),
+                Ok(command) => self.look_at_all(command, words),
+                Err(UnknownCommand) => self.refuse("there is no such command"),
+            },
         }
     }
 
@@ -82,10 +83,8 @@ impl<R: Files + Env + Print + Eprint + AllocGlobal, P: Program> Desk<'_, R, P> {
         let mut status = ExitCode::SUCCESS;
         for path in paths {
             match (command, self.look(command, path.as_str())?) {
-                (_, Seen::Good) | (Command::Show, Seen::Refused) => {}
-                (Command::Check, Seen::Refused) | (_, Seen::Unreadable) => {
-                    status = ExitCode::FAILURE;
-                }
+                (_, Some(Seen::Good)) | (Command::Show, Some(Seen::Refused)) => {}
+                (Command::Check, Some(Seen::Refused)) | (_, None) => status = ExitCode::FAILURE,
             }
         }
         Ok(status)

@@ -6,9 +6,11 @@ use crate::Desk;
 use crate::help::Help;
 use report::listing::Listing;
 use report::verdict::{Found, Reason, Verdict};
-use std::fs;
+use std::error::Error;
 use std::io::{self, Eprint, Print, Read};
 use std::rt::Files;
+use std::str::FromStr;
+use std::{fmt, fs};
 use wording::words::MOST_BYTES;
 
 /// What is done with each file.
@@ -19,12 +21,35 @@ pub enum Command {
     Show,
 }
 
-/// What was seen of a file.
+/// A word that is none of these commands.
+#[derive(Clone, Copy, PartialEq, Eq, Debug)]
+pub struct UnknownCommand;
+
+impl FromStr for Command {
+    type Err = UnknownCommand;
+
+    fn from_str(word: &str) -> Result<Command, UnknownCommand> {
+        match word {
+            "check" => Ok(Command::Check),
+            "show" => Ok(Command::Show),
+            _ => Err(UnknownCommand),
+        }
+    }
+}
+
+impl fmt::Display for UnknownCommand {
+    fn fmt<W: fmt::Write>(&self, f: &mut fmt::Formatter<W>) -> fmt::Result {
+        f.write_str("there is no such command")
+    }
+}
+
+impl Error for UnknownCommand {}
+
+/// What was seen of a file that was read.
 #[derive(Clone, Copy, PartialEq, Eq, Debug)]
 pub enum Seen {
     Good,
     Refused,
-    Unreadable,
 }
 
 /// A program: what it says of a file, and how it is used.
@@ -58,14 +83,15 @@ pub fn print_verdict<R: Print, G: Found, E: Reason>(
 }
 
 impl<R: Files + Print + Eprint + AllocGlobal, P: Program> Desk<'_, R, P> {
-    /// Does what the command says with one file, and answers what was seen of it.
-    pub(crate) fn look(&self, command: Command, path: &str) -> io::Result<Seen> {
+    /// Does what the command says with one file, and answers what was seen of it. One that cannot be read is named on standard
+    /// error, and nothing was seen of it.
+    pub(crate) fn look(&self, command: Command, path: &str) -> io::Result<Option<Seen>> {
         let rt = self.rt;
         match read(rt, path) {
-            Ok(bytes) => self.program.tell(rt, command, path, bytes.as_slice()),
+            Ok(bytes) => Ok(Some(self.program.tell(rt, command, path, bytes.as_slice())?)),
             Err(reason) => {
                 eprintln!(rt; "lotbook: {path}: {reason}")?;
-                Ok(Seen::Unreadable)
+                Ok(None)
             }
         }
     }

@@ -2,7 +2,7 @@
 use crate::Desk;
 use crate::books::AnyBook;
 use crate::line_error::LineError;
-use crate::look::{Program, Seen};
+use crate::look::Program;
 use crate::script::{Line, column_name, parse};
 use book::calls::Answer;
 use book::fault::BookFault;
@@ -60,9 +60,7 @@ impl<R: Files + Print + Eprint + AllocGlobal, P: Program> Desk<'_, R, P> {
                 print_values(rt, book)?;
             }
             Line::Look(command, path) => {
-                if self.look(command, path)? == Seen::Unreadable {
-                    return Err(LineError::Unreadable);
-                }
+                self.look(command, path)?.ok_or(LineError::Unreadable)?;
             }
         }
         Ok(())

@@ -51,9 +51,7 @@ fn first_word<'a>(word: &str, words: &mut SplitWhitespace<'a>) -> Option<Line<'a
         })),
         "lots" => Some(Line::Call(Call::Lots)),
         "dump" => Some(Line::Dump),
-        "check" => Some(Line::Look(Command::Check, words.next()?)),
-        "show" => Some(Line::Look(Command::Show, words.next()?)),
-        _ => None,
+        _ => Some(Line::Look(word.parse::<Command>().ok()?, words.next()?)),
     }
 }
 
