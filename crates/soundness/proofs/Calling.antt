@@ -3,6 +3,7 @@ use Rattle.std.proofs.Common.{◌≡◌, ℕ, zero, suc, ◌+◌, ◌-◌, ◌<�
 use Rattle.std.proofs.lemmas.Bool.{true≢false, and_from, cases_lt}
 use Rattle.std.proofs.lemmas.Bool.Decides.{nat_tests}
 use Rattle.std.specs.List.{slice_get}
+use Rattle.std.proofs.lemmas.Option.{slice_get_within}
 use Rattle.book.specs.Meanings.{Meaning, get_answer, put_answer}
 use Rattle.book.specs.declared.fault.BookFault.{BookFault}
 use Rattle.nodes.specs.declared.kind.Kind.TheVariants as kind
@@ -81,11 +82,6 @@ one_cell r d e = rw (e, cells_of) refl
 abbrev Filled : Rule → List Value → Open → ℕ → Type 0
 Filled r cs o k = (d : ℕ) → meant r.nodes o.node ≡ Some d → kind_at r d ≡ 5 → (q : ℕ) → q < k → FilledBy r (slice_get (parameters r d) q) cs (o.base + q)
 
-within : {X : Type 0} (xs : List X) (q : ℕ) (x : X) → slice_get xs q ≡ Some x → q < length xs
-within [] q x h = absurd (grind arith)
-within (y ∷ xs) zero x h = omega arith
-within (y ∷ xs) (suc q) x h = let k = within xs q x h in omega arith
-
 body_held : (r : Rule) (type : ℕ → Option Ty) (cs : List Value) (o : Open) (d : ℕ) → GoodMethodCall r type o.node d → meant r.nodes o.node ≡ Some d → kind_at r d ≡ 5 → Stands r cs o → length cs ≡ o.base + length (parameters r d) → Filled r cs o (length (parameters r d)) → Held r cs (length cs) o.base (body r.nodes d)
 body_held r type cs o d g p k s u fill e h = elim (g.names e h) [
   | inl a ↦ field a
@@ -101,7 +97,7 @@ body_held r type cs o d g p k s u fill e h = elim (g.names e h) [
         let none : x ≡ 0 = omega arith in
         let at = parameter_address r o.base e b.2 in
         let same : address r o.base e + x ≡ o.base + b.0 = let off = b.3 in omega arith in
-        let low = within (parameters r d) b.0 e b.1 in
+        let low = slice_get_within (parameters r d) b.0 e b.1 in
         let full = rw b.1 at (fill d p k b.0 low) in
         (omega arith, rw same full)
 

@@ -59,7 +59,7 @@ IsInner nothing = ⊥
 
 -- ── By the numbers of kinds ──
 
-no : {A : Type 0} → ◌≡◌ {A = Bool} false true → A
+pub no : {A : Type 0} → ◌≡◌ {A = Bool} false true → A
 no h = absurd (true≢false (sym h))
 
 pub is_expression : (k : Kind) → between 17 24 (number k) ≡ true → IsExpression (class k)

@@ -2,7 +2,6 @@
 use Rattle.std.proofs.Common.{◌≡◌, ℕ, ◌-◌, ◌<◌, Bool, true, false, cond, eqb, ◌⊎◌, ℤ, Some, None, Option, sym, refl, ◌∙◌, inl, inr, arith, w32, w64, Ok, Err, Result}
 use Rattle.std.proofs.lemmas.Option.{none-some, same_Some}
 use mir.Syntax.{Width}
-use Rattle.std.proofs.lemmas.Bool.{true≢false}
 use Rattle.std.proofs.lemmas.Bool.Decides.{nat_tests}
 use Rattle.node_rules.specs.declared.types.Ty.{Ty}
 use Rattle.node_rules.specs.declared.types.Ty.TheVariants as ty
@@ -13,15 +12,13 @@ use Rattle.semantics.specs.declared.value.Operator.{Operator}
 use Rattle.semantics.specs.declared.value.Operator.TheVariants.{Add, Subtract, Multiply, Divide, Remainder, Less, Greater, AtMost, AtLeast, Equal, NotEqual, And, Or}
 use Rattle.semantics.specs.declared.value.Misfit.{Misfit}
 use Rattle.semantics.specs.declared.value.Misfit.TheVariants.{ZeroDivisor, IllTyped}
+use Rattle.soundness.proofs.Classes.{no}
 use Rattle.soundness.specs.Checked.{number_type, truth_type, operator_type, IsNumber}
 
 abbrev pub Computes : Result Value Misfit → Option Ty → Type 0
 Computes (Ok v) t = is_of t v ≡ true
 Computes (Err ZeroDivisor) t = Unit {0}
 Computes (Err IllTyped) t = ⊥
-
-no : {A : Type 0} → ◌≡◌ {A = Bool} false true → A
-no h = absurd (true≢false (sym h))
 
 -- what is_of s is_of m
 fits_as : (s m : Ty) (v : Value) → ◌≡◌ {A = Option Ty} (Some s) (Some m) → is_of (Some s) v ≡ true → is_of (Some m) v ≡ true
