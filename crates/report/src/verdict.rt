@@ -3,6 +3,7 @@
 // There are two: by the layout alone, and by the rules of the language too.
 ghost use Rattle.std.specs.Prelude.{◌≡◌, is_ok};
 ghost use Rattle.checker.specs.Checked.{Checking};
+ghost use Rattle.layout.specs.Readers.{file_of};
 ghost use Rattle.rule_file.specs.Verdict.{Examined};
 
 use checker::{Refusal, check};
@@ -42,28 +43,35 @@ pub struct Verdict<'a, G, R> {
 impl<'a> Verdict<'a, Reader<'a>, Finding<FileFault>> {
     /// Examines the layout of a file.
     pub fn on_layout(file: &'a [u8]) -> Verdict<'a, Reader<'a>, Finding<FileFault>>
-        ensures { Examined result.found file.now }
+        ensures found { Examined result.found file.now }
+        ensures over { file_of result.reader ≡ file.now }
     {
-        Verdict {
-            reader: Reader::over(file),
-            found: examine(file),
-        }
+        Verdict::of(file, examine(file))
     }
 }
 
 impl<'a> Verdict<'a, Rule<'a>, Refusal> {
     /// Checks a file.
     pub fn on(file: &'a [u8]) -> Verdict<'a, Rule<'a>, Refusal>
-        ensures { Checking result.found file.now }
+        ensures found { Checking result.found file.now }
+        ensures over { file_of result.reader ≡ file.now }
     {
-        Verdict {
-            reader: Reader::over(file),
-            found: check(file),
-        }
+        Verdict::of(file, check(file))
     }
 }
 
 impl<'a, G, R> Verdict<'a, G, R> {
+    // The verdict on a file of which this was found.
+    fn of(file: &'a [u8], found: Result<G, R>) -> Verdict<'a, G, R>
+        ensures found { result.found ≡ found }
+        ensures over { file_of result.reader ≡ file.now }
+    {
+        Verdict {
+            reader: Reader::over(file),
+            found,
+        }
+    }
+
     /// Whether the file is good.
     pub fn is_good(&self) -> bool
         ensures { result ≡ is_ok self.now.found }
@@ -72,7 +80,9 @@ impl<'a, G, R> Verdict<'a, G, R> {
     }
 
     /// A reader over the file, good or not.
-    pub fn reader(&self) -> Reader<'a> {
+    pub fn reader(&self) -> Reader<'a>
+        ensures { result ≡ self.now.reader }
+    {
         self.reader
     }
 }
