@@ -1,48 +1,62 @@
 // How a book of slips is made, and its calls.
 ghost use Rattle.std.specs.Prelude.{◌≡◌, min, IfOk, Ok};
 ghost use Rattle.book.specs.Meanings.{with_room, done, left};
-ghost use Rattle.book.specs.Spots.{IsIn};
+ghost use Rattle.book_makes.specs.Piles.{Found};
 ghost use Rattle.book_makes.specs.Slips.{slips_meaning, empty_slips};
 
 use super::SlipsBook;
+use crate::slip::{fill_in, find_slip};
 use book::fault::BookFault;
 use book::spot::{Spot, find_spot};
-use book::{Book, COLUMNS, MOST_LOTS};
+use book::{Book, MOST_LOTS};
 use std::alloc::{AllocError, Global};
-use std::collections::HashMap;
 
 impl SlipsBook {
     /// A book without a value, of so many lots, cut at 4,096, and so many slips. `Err` says that memory is wanting.
     pub fn new(heap: Global, lots: u32, slips: u32) -> Result<SlipsBook, AllocError>
         ensures { IfOk result (λ book. slips_meaning book ≡ empty_slips (min lots 4096) slips) }
     {
-        let lots = lots.min(MOST_LOTS);
-        // No more slips than there are columns and lots are ever filled in.
-        let room = slips.min(COLUMNS * lots);
+        let pile = Vec::with_capacity(heap, slips as usize)?;
         Ok(SlipsBook {
-            lots,
+            lots: lots.min(MOST_LOTS),
             most: slips,
-            slips: HashMap::with_capacity(heap, room as usize)?,
+            pile,
         })
+    }
+
+    // The index of the slip of a spot.
+    fn find(&self, spot: Spot) -> Option<usize>
+        ensures { Found result self.now.pile.items spot }
+    {
+        find_slip(self.pile.as_slice(), spot)
     }
 
     // Fills in the slip of a spot, anew where there is one.
     fn put_at(&mut self, spot: Spot, value: i32) -> Result<(), BookFault>
-        requires { IsIn self.old.lots spot }
         ensures answer { result ≡ done (with_room (slips_meaning self.old) (Ok spot)) }
         ensures after { slips_meaning self.new ≡ left (slips_meaning self.old) value (with_room (slips_meaning self.old) (Ok spot)) }
     {
-        if let Some(slip) = self.slips.get_mut(&spot) {
-            *slip = value;
-            return Ok(());
+        let slip = fill_in(spot, value);
+        match self.find(spot) {
+            Some(i) => self.pile[i] = slip,
+            None => {
+                if self.pile.len() >= self.most as usize {
+                    return Err(BookFault::NoPlace);
+                }
+                self.pile.push_reserved(slip);
+            }
         }
-        if self.slips.len() >= self.most as usize {
-            return Err(BookFault::NoPlace);
-        }
-        // There is room, so it cannot fail.
-        let filled: Result<_, _> = self.slips.insert(spot, value);
-        filled.unwrap();
         Ok(())
+    }
+
+    // The value on the slip of a spot.
+    fn get_at(&self, spot: Spot) -> Option<i32>
+        ensures { result ≡ (slips_meaning self.now).value spot.column spot.lot }
+    {
+        match self.find(spot) {
+            Some(i) => Some(self.pile[i].value),
+            None => None,
+        }
     }
 }
 
@@ -62,6 +76,6 @@ impl Book for SlipsBook {
 
     fn get(&self, column: u32, lot: i32) -> Result<Option<i32>, BookFault> {
         let spot = find_spot(self.lots, column, lot)?;
-        Ok(self.slips.get(&spot).copied())
+        Ok(self.get_at(spot))
     }
 }

@@ -1,0 +1,36 @@
+// A slip, and where in a pile the slip of a spot is.
+ghost use Rattle.book_makes.specs.Piles.{Found, slip_of};
+ghost use Rattle.std.specs.Prelude.{◌≡◌};
+
+use book::spot::Spot;
+
+/// A value with its column and lot.
+#[derive(Clone, Copy)]
+pub struct Slip {
+    pub column: u32,
+    pub lot: u32,
+    pub value: i32,
+}
+
+// The slip of a spot with a value.
+pub(crate) fn fill_in(spot: Spot, value: i32) -> Slip
+    ensures { result ≡ slip_of spot value }
+{
+    Slip {
+        column: spot.column,
+        lot: spot.lot,
+        value,
+    }
+}
+
+// The index of the first slip of a spot.
+pub(crate) fn find_slip(pile: &[Slip], spot: Spot) -> Option<usize>
+    ensures { Found result pile.now spot }
+{
+    for (i, slip) in pile.iter().enumerate() {
+        if slip.column == spot.column && slip.lot == spot.lot {
+            return Some(i);
+        }
+    }
+    None
+}
