@@ -1,11 +1,12 @@
--- What a slip found says of a pile, and what a slip filled in anew or added does to it.
-use Rattle.std.proofs.Common.{◌≡◌, ℕ, zero, suc, ◌-◌, ◌<◌, true, false, cond, ltb, List, [], ◌∷◌, ◌++◌, set, ℤ, Some, None, Ok, Err, refl, ◌∙◌, arith}
+-- What a slip found says of a pile, and what a slip filled in anew or put in does to it.
+use Rattle.std.proofs.Common.{◌≡◌, ℕ, zero, suc, ◌-◌, ◌<◌, true, false, cond, ltb, List, [], ◌∷◌, set, ℤ, Some, None, Ok, Err, refl, ◌∙◌, arith}
 use mathlib.Core.Path.{fun_ext}
+use Rattle.std.specs.List.{insert}
 use Rattle.std.proofs.lemmas.Bool.Decides.{nat_tests}
 use Rattle.book.specs.Meanings.{changed, with_room, done, left}
 use Rattle.book.specs.declared.fault.BookFault.TheVariants.{NoPlace}
 use Rattle.book.specs.declared.spot.Spot.{Spot}
-use Rattle.book_makes.specs.Piles.{of, holds, value_in, single, slip_at, slip_of, Found}
+use Rattle.book_makes.specs.Piles.{of, holds, value_in, slip_at, slip_of, Found}
 use Rattle.book_makes.specs.Slips.{of_pile}
 use Rattle.book_makes.specs.declared.slip.Slip.{Slip}
 
@@ -30,7 +31,7 @@ holds_found [] s i f = absurd (omega (arith, f.0))
 holds_found (x ∷ ss) s zero f = rw f.1 refl
 holds_found (x ∷ ss) s (suc i) f = rw (f.2 0 (omega arith)) (holds_found ss s i (below x ss s i f))
 
-holds_none : (ss : List Slip) (s : Spot) → Found None ss s → holds ss s.column s.lot ≡ false
+pub holds_none : (ss : List Slip) (s : Spot) → Found None ss s → holds ss s.column s.lot ≡ false
 holds_none [] s f = refl
 holds_none (x ∷ ss) s f = rw (f 0 (omega arith)) (holds_none ss s (none_below x ss s f))
 
@@ -51,35 +52,21 @@ holds_set (x ∷ ss) s v (suc i) f c l = rw (holds_set ss s v i (below x ss s i 
 place_set : (ss : List Slip) (s : Spot) (c l : ℕ) → holds ss s.column s.lot ≡ true → holds ss c l ≡ changed (holds ss) s true c l
 place_set ss s c l h = grind (arith, nat_tests)
 
-pub single_set : (ss : List Slip) (s : Spot) (v : ℤ) (i : ℕ) → Found (Some i) ss s → single ss ≡ true → single (set ss i (slip_of s v)) ≡ true
-single_set [] s v i f h = absurd (omega (arith, f.0))
-single_set (x ∷ ss) s v zero f h = let e = f.1 in grind (arith, nat_tests)
-single_set (x ∷ ss) s v (suc i) f h =
-    let same = holds_set ss s v i (below x ss s i f) x.column x.lot in
-    let rest : single ss ≡ true = grind (arith, nat_tests) in
-    let more = single_set ss s v i (below x ss s i f) rest in
-    grind (arith, nat_tests)
-
--- A slip added.
-value_push : (ss : List Slip) (s : Spot) (v : ℤ) → Found None ss s → (c l : ℕ) → value_in (ss ++ slip_of s v ∷ []) c l ≡ changed (value_in ss) s (Some v) c l
-value_push [] s v f c l = refl
-value_push (x ∷ ss) s v f c l =
+-- A slip put in.
+value_insert : (ss : List Slip) (s : Spot) (v : ℤ) (i : ℕ) → Found None ss s → (c l : ℕ) → value_in (insert ss i (slip_of s v)) c l ≡ changed (value_in ss) s (Some v) c l
+value_insert [] s v zero f c l = refl
+value_insert [] s v (suc i) f c l = refl
+value_insert (x ∷ ss) s v zero f c l = refl
+value_insert (x ∷ ss) s v (suc i) f c l =
     let z : of x s.column s.lot ≡ false = f 0 (omega arith) in
-    let more = value_push ss s v (none_below x ss s f) c l in
+    let more = value_insert ss s v i (none_below x ss s f) c l in
     grind (arith, nat_tests)
 
-holds_push : (ss : List Slip) (s : Spot) (v : ℤ) (c l : ℕ) → holds (ss ++ slip_of s v ∷ []) c l ≡ changed (holds ss) s true c l
-holds_push [] s v c l = grind (arith, nat_tests)
-holds_push (x ∷ ss) s v c l = let more = holds_push ss s v c l in grind (arith, nat_tests)
-
-pub single_push : (ss : List Slip) (s : Spot) (v : ℤ) → Found None ss s → single ss ≡ true → single (ss ++ slip_of s v ∷ []) ≡ true
-single_push [] s v f h = refl
-single_push (x ∷ ss) s v f h =
-    let z : of x s.column s.lot ≡ false = f 0 (omega arith) in
-    let same = holds_push ss s v x.column x.lot in
-    let rest : single ss ≡ true = grind (arith, nat_tests) in
-    let more = single_push ss s v (none_below x ss s f) rest in
-    grind (arith, nat_tests)
+holds_insert : (ss : List Slip) (s : Spot) (v : ℤ) (i c l : ℕ) → holds (insert ss i (slip_of s v)) c l ≡ changed (holds ss) s true c l
+holds_insert [] s v zero c l = grind (arith, nat_tests)
+holds_insert [] s v (suc i) c l = grind (arith, nat_tests)
+holds_insert (x ∷ ss) s v zero c l = grind (arith, nat_tests)
+holds_insert (x ∷ ss) s v (suc i) c l = let more = holds_insert ss s v i c l in grind (arith, nat_tests)
 
 -- The two as puts of a meaning, and a put that finds no slip free.
 module _ (n free : ℕ) (ss : List Slip) (s : Spot) (v : ℤ) where
@@ -91,12 +78,12 @@ module _ (n free : ℕ) (ss : List Slip) (s : Spot) (v : ℤ) where
       let same : free ≡ cond (holds ss s.column s.lot) free (free - 1) = rw has refl in
       (rw has refl, rw has (λ j. record { lots = n; value = values j; place = places j; free = same j }))
 
-  pub put_push : Found None ss s → 0 < free → (Ok tt ≡ done (with_room (of_pile n ss free) (Ok s))) × (of_pile n (ss ++ slip_of s v ∷ []) (free - 1) ≡ left (of_pile n ss free) v (with_room (of_pile n ss free) (Ok s)))
-  put_push f more =
+  pub put_insert : (i : ℕ) → Found None ss s → 0 < free → (Ok tt ≡ done (with_room (of_pile n ss free) (Ok s))) × (of_pile n (insert ss i (slip_of s v)) (free - 1) ≡ left (of_pile n ss free) v (with_room (of_pile n ss free) (Ok s)))
+  put_insert i f more =
       let has = holds_none ss s f in
       let some : ltb 0 free ≡ true = grind (arith, nat_tests) in
-      let values : value_in (ss ++ slip_of s v ∷ []) ≡ changed (value_in ss) s (Some v) = fun_ext (λ c. fun_ext (λ l. value_push ss s v f c l)) in
-      let places : holds (ss ++ slip_of s v ∷ []) ≡ changed (holds ss) s true = fun_ext (λ c. fun_ext (λ l. holds_push ss s v c l)) in
+      let values : value_in (insert ss i (slip_of s v)) ≡ changed (value_in ss) s (Some v) = fun_ext (λ c. fun_ext (λ l. value_insert ss s v i f c l)) in
+      let places : holds (insert ss i (slip_of s v)) ≡ changed (holds ss) s true = fun_ext (λ c. fun_ext (λ l. holds_insert ss s v i c l)) in
       let fewer : free - 1 ≡ cond (holds ss s.column s.lot) free (free - 1) = rw has refl in
       (rw (has, some) refl, rw (has, some) (λ j. record { lots = n; value = values j; place = places j; free = fewer j }))
 

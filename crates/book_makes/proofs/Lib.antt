@@ -1,2 +1,3 @@
 pub mod Cells
 pub mod Heaps
+pub mod Orders

@@ -1,7 +1,8 @@
-// A slip, and where in a pile the slip of a spot is.
-ghost use Rattle.book_makes.specs.Piles.{Found, slip_of};
+// A slip, and its rank in a pile.
+ghost use Rattle.book_makes.specs.Piles.{rank, slip_of};
 ghost use Rattle.std.specs.Prelude.{◌≡◌};
 
+use book::COLUMNS;
 use book::spot::Spot;
 
 /// A value with its column and lot.
@@ -23,14 +24,9 @@ pub(crate) fn fill_in(spot: Spot, value: i32) -> Slip
     }
 }
 
-// The index of the first slip of a spot.
-pub(crate) fn find_slip(pile: &[Slip], spot: Spot) -> Option<usize>
-    ensures { Found result pile.now spot }
+// The rank of a column and a lot, which go by lot and then by column.
+pub(crate) fn rank(column: u32, lot: u32) -> u64
+    ensures { result ≡ rank column lot }
 {
-    for (i, slip) in pile.iter().enumerate() {
-        if slip.column == spot.column && slip.lot == spot.lot {
-            return Some(i);
-        }
-    }
-    None
+    u64::from(COLUMNS) * u64::from(lot) + u64::from(column)
 }

@@ -1,11 +1,12 @@
 // How a book of slips is made, and its calls.
-ghost use Rattle.std.specs.Prelude.{◌≡◌, min, IfOk, Ok};
+ghost use Rattle.std.specs.Prelude.{◌≡◌, min, IfErr, IfOk, Ok, Some};
 ghost use Rattle.book.specs.Meanings.{with_room, done, left};
-ghost use Rattle.book_makes.specs.Piles.{Found};
+ghost use Rattle.book.specs.Spots.{IsIn};
+ghost use Rattle.book_makes.specs.Piles.{Found, IsGap};
 ghost use Rattle.book_makes.specs.Slips.{slips_meaning, empty_slips};
 
 use super::SlipsBook;
-use crate::slip::{fill_in, find_slip};
+use crate::slip::{fill_in, rank};
 use book::fault::BookFault;
 use book::spot::{Spot, find_spot};
 use book::{Book, MOST_LOTS};
@@ -24,26 +25,34 @@ impl SlipsBook {
         })
     }
 
-    // The index of the slip of a spot.
-    fn find(&self, spot: Spot) -> Option<usize>
-        ensures { Found result self.now.pile.items spot }
+    // Where the slip of a spot is, or where it would go.
+    fn find(&self, spot: Spot) -> Result<usize, usize>
+        requires { IsIn self.now.lots spot }
+        ensures found { IfOk result (λ i. Found (Some i) self.now.pile.items spot) }
+        ensures absent { IfErr result (IsGap self.now.pile.items spot) }
     {
-        find_slip(self.pile.as_slice(), spot)
+        self.pile.binary_search_by_key(
+            &rank(spot.column, spot.lot),
+            |slip| rank(slip.column, slip.lot),
+        )
     }
 
     // Fills in the slip of a spot, anew where there is one.
     fn put_at(&mut self, spot: Spot, value: i32) -> Result<(), BookFault>
+        requires { IsIn self.old.lots spot }
         ensures answer { result ≡ done (with_room (slips_meaning self.old) (Ok spot)) }
         ensures after { slips_meaning self.new ≡ left (slips_meaning self.old) value (with_room (slips_meaning self.old) (Ok spot)) }
     {
         let slip = fill_in(spot, value);
         match self.find(spot) {
-            Some(i) => self.pile[i] = slip,
-            None => {
+            Ok(i) => self.pile[i] = slip,
+            Err(i) => {
                 if self.pile.len() >= self.most as usize {
                     return Err(BookFault::NoPlace);
                 }
-                self.pile.push_reserved(slip);
+                // There is room, so it cannot fail.
+                let filled: Result<_, _> = self.pile.insert(i, slip);
+                filled.unwrap();
             }
         }
         Ok(())
@@ -51,11 +60,12 @@ impl SlipsBook {
 
     // The value on the slip of a spot.
     fn get_at(&self, spot: Spot) -> Option<i32>
+        requires { IsIn self.now.lots spot }
         ensures { result ≡ (slips_meaning self.now).value spot.column spot.lot }
     {
         match self.find(spot) {
-            Some(i) => Some(self.pile[i].value),
-            None => None,
+            Ok(i) => Some(self.pile[i].value),
+            Err(_) => None,
         }
     }
 }
