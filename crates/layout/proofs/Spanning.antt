@@ -1,11 +1,10 @@
 -- The nodes that span a node: how many of those in a range do, and which is the highest.
-use Rattle.std.proofs.Common.{◌≡◌, ℕ, zero, suc, ◌+◌, ◌-◌, Bool, true, false, cond, nat_lt, List, [], ◌∷◌, ◌++◌, filter, length, Some, Option, refl, ap, ◌∙◌, arith, length-append}
-use Rattle.std.specs.List.{range_with_len, find}
+use Rattle.std.proofs.Common.{◌≡◌, ℕ, zero, suc, ◌+◌, ◌-◌, Bool, true, false, cond, nat_lt, List, [], ◌∷◌, length, Some, Option, refl, arith}
+use Rattle.std.specs.List.{find}
 use Rattle.std.specs.Option.{unwrap_or}
 use Rattle.std.specs.Range.{range_steps_back}
 use Rattle.std.proofs.lemmas.Iterator.{YieldsList}
 use Rattle.std.proofs.lemmas.Iterator.Consumers.{YieldsList-from_shown}
-use Rattle.std.proofs.lemmas.List.Elements.{filter-append}
 use Rattle.std.specs.declared.ops.Range.{Range}
 use Rattle.nodes.specs.Tree.{around, holder}
 
@@ -39,17 +38,9 @@ yields_below s n h =
     let l : down s ≡ down_from 0 n = rw (k, h) refl in
     rw l at (yields_down s)
 
-range_more : (a n : ℕ) → range_with_len a (suc n) ≡ range_with_len a n ++ (a + n) ∷ []
-range_more a zero = let z : a + 0 ≡ a = omega arith in rw z refl
-range_more a (suc n) = let z : a + suc n ≡ a + 1 + n = omega arith in rw z (ap (λ xs. a ∷ xs) (range_more (a + 1) n))
-
 module _ (e : ℕ → ℕ) (i : ℕ) where
   abbrev spans : ℕ → Bool
   spans j = nat_lt i (e j)
-
-  one : (b : Bool) (n : ℕ) (xs : List ℕ) → length xs + length (cond b (n ∷ []) []) ≡ length (cond b (n ∷ xs) xs)
-  one true n xs = omega arith
-  one false n xs = omega arith
 
   counted : (b : Bool) (n k : ℕ) (xs : List ℕ) → k ≡ length xs → b ≡ true → k + 1 ≡ length (cond b (n ∷ xs) xs)
   counted b n k xs h t = rw t (omega arith)
@@ -57,18 +48,7 @@ module _ (e : ℕ → ℕ) (i : ℕ) where
   left_out : (b : Bool) (n k : ℕ) (xs : List ℕ) → k ≡ length xs → b ≡ false → k ≡ length (cond b (n ∷ xs) xs)
   left_out b n k xs h f = rw f h
 
-  -- so many nodes below n span i
-  pub spanning : (n : ℕ) → length (filter spans (range_with_len 0 n)) ≡ length (around e i n)
-  spanning zero = refl
-  spanning (suc n) =
-      let z : 0 + n ≡ n = omega arith in
-      ap (λ xs. length (filter spans xs)) (rw z at (range_more 0 n))
-      ∙ ap length (filter-append spans (range_with_len 0 n) (n ∷ []))
-      ∙ length-append (filter spans (range_with_len 0 n)) (filter spans (n ∷ []))
-      ∙ ap (λ k. k + length (filter spans (n ∷ []))) (spanning n)
-      ∙ one (spans n) n (around e i n)
-
-  -- and with n itself
+  -- one node more, n, among those that are counted below it
   pub spanning_too : (n k : ℕ) → k ≡ length (around e i n) → nat_lt i (e n) ≡ true → k + 1 ≡ length (around e i (n + 1))
   spanning_too n k h t = let z : n + 1 ≡ suc n = omega arith in rw z (counted (spans n) n k (around e i n) h t)
 

@@ -34,11 +34,19 @@ fn spans(nodes: &[u8], j: u32, i: u32) -> bool
 }
 
 // How many nodes below `n` span node `i`.
+// Kept: a loop, since `filter` and `count` over the range took a seventh more instructions, and a listing asks this for every line.
+#[tactic(auto, using(crate::proofs::Spanning::spanning_too, crate::proofs::Spanning::not_spanning_too))]
 fn count_below(nodes: &[u8], n: u32, i: u32) -> usize
     ensures counted { result ≡ length (around (end_of nodes.now) i n) }
     ensures few { result ≤ n }
 {
-    (0..n).filter(|j| spans(nodes, *j, i)).count()
+    let mut lower: usize = 0;
+    for j in 0..n {
+        if spans(nodes, j, i) {
+            lower += 1;
+        }
+    }
+    lower
 }
 
 // How many nodes up to and including `last` span node `i`.
