@@ -3,7 +3,6 @@ ghost use Rattle.std.specs.Prelude.{◌≡◌};
 ghost use Rattle.rules.specs.Violations.{number_of};
 
 use finding::Numbered;
-
 pub use node_rules::violation::Violation;
 
 /// The number by which a violation is answered.
