@@ -10,8 +10,7 @@ pub mod calls;
 /// filled in are free. No two slips are of one column and lot.
 ///
 /// The slips that are filled in lie in the order of their lots and columns. `put` and `get` look a slip up by halves, but a `get`
-/// among few slips looks through them; putting a
-/// new one moves those after it.
+/// among few slips looks through them; putting a new one moves those after it.
 #[derive(Drop)]
 pub struct SlipsBook {
     lots: u32,
