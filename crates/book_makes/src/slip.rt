@@ -1,5 +1,5 @@
-// A slip, and its rank in a pile.
-ghost use Rattle.book_makes.specs.Piles.{rank, slip_of};
+// A slip, its rank in a pile, and where in a pile of few the slip of a spot is.
+ghost use Rattle.book_makes.specs.Piles.{Found, rank, slip_of};
 ghost use Rattle.std.specs.Prelude.{◌≡◌};
 
 use book::COLUMNS;
@@ -29,4 +29,16 @@ pub(crate) fn rank(column: u32, lot: u32) -> u64
     ensures { result ≡ rank column lot }
 {
     u64::from(COLUMNS) * u64::from(lot) + u64::from(column)
+}
+
+// The index of the first slip of a spot.
+pub(crate) fn find_slip(pile: &[Slip], spot: Spot) -> Option<usize>
+    ensures { Found result pile.now spot }
+{
+    for (i, slip) in pile.iter().enumerate() {
+        if slip.column == spot.column && slip.lot == spot.lot {
+            return Some(i);
+        }
+    }
+    None
 }

@@ -9,8 +9,8 @@ pub mod calls;
 /// A book of a given number of slips. A column and a lot have a place once a slip of theirs is filled in; the slips that are not
 /// filled in are free. No two slips are of one column and lot.
 ///
-/// The slips that are filled in lie in the order of their lots and columns. `put` and `get` look a slip up by halves; putting a
-/// new one moves those after it.
+/// The slips that are filled in lie in the order of their lots and columns. `put` and `get` look a slip up by halves, but a `get`
+/// among few slips looks through them; putting a new one moves those after it.
 #[derive(Drop)]
 pub struct SlipsBook {
     lots: u32,

@@ -6,11 +6,14 @@ ghost use Rattle.book_makes.specs.Piles.{Found, IsGap};
 ghost use Rattle.book_makes.specs.Slips.{slips_meaning, empty_slips};
 
 use super::SlipsBook;
-use crate::slip::{fill_in, rank};
+use crate::slip::{fill_in, find_slip, rank};
 use book::fault::BookFault;
 use book::spot::{Spot, find_spot};
 use book::{Book, MOST_LOTS};
 use std::alloc::{AllocError, Global};
+
+// A get looks through the slips where there are no more than this.
+const FEW: usize = 10;
 
 impl SlipsBook {
     /// A book without a value, of so many lots, cut at 4,096, and so many slips. `Err` says that memory is wanting.
@@ -58,14 +61,30 @@ impl SlipsBook {
         Ok(())
     }
 
+    // The index of the slip of a spot.
+    //
+    // Kept: a few slips are looked through, since halving took up to twice as many steps in a dump of a book of few.
+    fn look_up(&self, spot: Spot) -> Option<usize>
+        requires { IsIn self.now.lots spot }
+        ensures { Found result self.now.pile.items spot }
+    {
+        if self.pile.len() <= FEW {
+            return find_slip(self.pile.as_slice(), spot);
+        }
+        match self.find(spot) {
+            Ok(i) => Some(i),
+            Err(_) => None,
+        }
+    }
+
     // The value on the slip of a spot.
     fn get_at(&self, spot: Spot) -> Option<i32>
         requires { IsIn self.now.lots spot }
         ensures { result ≡ (slips_meaning self.now).value spot.column spot.lot }
     {
-        match self.find(spot) {
-            Ok(i) => Some(self.pile[i].value),
-            Err(_) => None,
+        match self.look_up(spot) {
+            Some(i) => Some(self.pile[i].value),
+            None => None,
         }
     }
 }
