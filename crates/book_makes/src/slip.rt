@@ -6,7 +6,7 @@ use book::COLUMNS;
 use book::spot::Spot;
 
 /// A value with its column and lot.
-#[derive(Clone, Copy)]
+#[derive(Clone, Copy, PartialEq, Eq, Debug)]
 pub struct Slip {
     pub column: u32,
     pub lot: u32,
@@ -14,6 +14,7 @@ pub struct Slip {
 }
 
 // The slip of a spot with a value.
+// Kept: a put brings a spot and a value, and nothing holds of the two.
 pub(crate) fn fill_in(spot: Spot, value: i32) -> Slip
     ensures { result ≡ slip_of spot value }
 {

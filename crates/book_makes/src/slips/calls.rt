@@ -64,6 +64,7 @@ impl SlipsBook {
     // The index of the slip of a spot.
     //
     // Kept: a few slips are looked through, since halving took up to twice as many steps in a dump of a book of few.
+    #[tactic(auto, using(crate::proofs::Orders::none_in_gap))]
     fn look_up(&self, spot: Spot) -> Option<usize>
         requires { IsIn self.now.lots spot }
         ensures { Found result self.now.pile.items spot }
@@ -71,21 +72,17 @@ impl SlipsBook {
         if self.pile.len() <= FEW {
             return find_slip(self.pile.as_slice(), spot);
         }
-        match self.find(spot) {
-            Ok(i) => Some(i),
-            Err(_) => None,
-        }
+        self.find(spot).ok()
     }
 
     // The value on the slip of a spot.
+    #[tactic(auto, using(crate::proofs::Heaps::value_none))]
     fn get_at(&self, spot: Spot) -> Option<i32>
         requires { IsIn self.now.lots spot }
         ensures { result ≡ (slips_meaning self.now).value spot.column spot.lot }
     {
-        match self.look_up(spot) {
-            Some(i) => Some(self.pile[i].value),
-            None => None,
-        }
+        let i = self.look_up(spot)?;
+        Some(self.pile[i].value)
     }
 }
 
