@@ -1,3 +1,3 @@
 pub mod Cells
-pub mod Counting
-pub mod Filling
+pub mod Heaps
+pub mod Orders

@@ -4,5 +4,6 @@
 // book is made, so a call never wants any.
 #![tactic(auto)]
 
+mod slip;
 pub mod slips;
 pub mod table;

@@ -1,25 +1,25 @@
 // A book as slips: each slip in use is a place, the others are free.
-ghost use Rattle.std.specs.Prelude.{◌≡◌, ℕ, ◌+◌, ◌*◌, ◌<◌, ◌≤◌, min, true};
-ghost use Rattle.std.specs.HashMap.{hash_map_len, spare};
-ghost use Rattle.book_makes.specs.Piles.{holds};
+ghost use Rattle.std.specs.Prelude.{◌≡◌, ◌≤◌, true, vec_len, vec_capacity};
+ghost use Rattle.book_makes.specs.Piles.{AreIn, IsInOrder, single};
 
-use book::spot::Spot;
-use std::collections::HashMap;
+use crate::slip::Slip;
 
 pub mod calls;
 
 /// A book of a given number of slips. A column and a lot have a place once a slip of theirs is filled in; the slips that are not
 /// filled in are free. No two slips are of one column and lot.
 ///
-/// The slips that are filled in are a map from spots to values. It has room from the first for as many as there can be, so a put
-/// asks for no memory. `put` and `get` take a look-up in the map.
+/// The slips that are filled in lie in the order of their lots and columns. `put` and `get` look a slip up by halves, but a `get`
+/// among few slips looks through them; putting a new one moves those after it.
 #[derive(Drop)]
 pub struct SlipsBook {
     lots: u32,
     most: u32,
-    slips: HashMap<Spot, i32>,
+    pile: Vec<Slip>,
     ghost few: { lots ≤ 4096 },
-    ghost within: { hash_map_len slips ≤ most },
-    ghost inside: { (c l : ℕ) → holds slips c l ≡ true → (c < 8) × (l < lots) },
-    ghost room: { min most (8 * lots) ≤ hash_map_len slips + spare slips },
+    ghost within: { vec_len pile ≤ most },
+    ghost room: { most ≤ vec_capacity pile },
+    ghost inside: { AreIn lots pile.items },
+    ghost ordered: { IsInOrder pile.items },
+    ghost one: { single pile.items ≡ true },
 }

@@ -102,8 +102,15 @@ fn judge<'f>(resolved: Resolved<'f>) -> Result<Rule<'f>, Finding<Violation>>
 }
 
 /// Checks a rule file: the rule, or why it is refused.
+// Kept: two matches, since each `?` on a value as large as a rule costs one more table that is cleared and copied.
 pub fn check(file: &[u8]) -> Result<Rule<'_>, Refusal>
     ensures { Checking result file.now }
 {
-    Ok(judge(resolve(file)?)?)
+    match resolve(file) {
+        Err(fault) => Err(Refusal::from(fault)),
+        Ok(resolved) => match judge(resolved) {
+            Err(violation) => Err(Refusal::from(violation)),
+            Ok(rule) => Ok(rule),
+        },
+    }
 }

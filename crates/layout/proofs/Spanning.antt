@@ -1,14 +1,11 @@
 -- The nodes that span a node: how many of those in a range do, and which is the highest.
-use Rattle.std.proofs.Common.{◌≡◌, ℕ, zero, suc, ◌+◌, ◌-◌, Bool, true, false, cond, nat_lt, List, [], ◌∷◌, ◌++◌, filter, length, Some, Option, refl, ap, ◌∙◌, arith, length-append}
-use Rattle.std.specs.List.{range_with_len, find}
+use Rattle.std.proofs.Common.{◌≡◌, ℕ, zero, suc, ◌+◌, ◌-◌, Bool, true, false, cond, nat_lt, List, [], ◌∷◌, length, Some, Option, refl, arith}
+use Rattle.std.specs.List.{find}
 use Rattle.std.specs.Option.{unwrap_or}
-use Rattle.std.specs.Range.{range_steps_back, range_inclusive_steps, range_inclusive_left, range_inclusive_start, range_inclusive_end, range_inclusive_exhausted}
+use Rattle.std.specs.Range.{range_steps_back}
 use Rattle.std.proofs.lemmas.Iterator.{YieldsList}
 use Rattle.std.proofs.lemmas.Iterator.Consumers.{YieldsList-from_shown}
-use Rattle.std.proofs.lemmas.List.Elements.{filter-append}
-use Rattle.std.proofs.lemmas.List.FromFn.{length-range_with_len}
 use Rattle.std.specs.declared.ops.Range.{Range}
-use Rattle.std.specs.declared.ops.RangeInclusive.{RangeInclusive}
 use Rattle.nodes.specs.Tree.{around, holder}
 
 abbrev gap : ℕ → ℕ → ℕ
@@ -17,10 +14,6 @@ gap a b = b - a
 abbrev Follows : ℕ → ℕ → Type 0
 Follows a b = b ≡ a + 1
 
--- what `a..=b` has left
-abbrev up : RangeInclusive ℕ → List ℕ
-up s = range_with_len (range_inclusive_start s) (range_inclusive_left gap s)
-
 -- the n numbers from a on, the highest first
 abbrev pub down_from : ℕ → ℕ → List ℕ
 down_from a zero = []
@@ -28,24 +21,6 @@ down_from a (suc n) = (a + n) ∷ down_from a n
 
 abbrev down : Range ℕ → List ℕ
 down s = down_from s.start (s.end - s.start)
-
-range_next : (a b n m x : ℕ) (last : Bool) → m + 1 ≡ n → x ≡ a → (last ≡ false → b ≡ a + 1) → (last ≡ true → m ≡ 0) → range_with_len a n ≡ x ∷ range_with_len b m
-range_next a b n m x false e q f z = let k : n ≡ suc m = omega arith in rw (k, q, f refl) refl
-range_next a b n m x true e q f z =
-    let k : n ≡ suc m = omega arith in let o : m ≡ 0 = z refl in rw (k, q, o) refl
-
-yields_up : (s : RangeInclusive ℕ) → YieldsList (range_inclusive_steps gap Follows) (λ x. x) s (up s)
-yields_up =
-    YieldsList-from_shown (range_inclusive_steps gap Follows) (λ x. x) up
-    (λ s t h. length-range_with_len (range_inclusive_start s) (range_inclusive_left gap s) ∙ h.1.0)
-    (λ s x t h. range_next s.start t.start (range_inclusive_left gap s) (range_inclusive_left gap t) x t.exhausted h.1.1 h.1.0 h.1.2 (λ q. rw q refl))
-
--- `0..=n`, from the front
-pub yields_through : (s : RangeInclusive ℕ) (n : ℕ) → range_inclusive_start s ≡ 0 → range_inclusive_end s ≡ n → range_inclusive_exhausted s ≡ false → YieldsList (range_inclusive_steps gap Follows) (λ x. x) s (range_with_len 0 (n + 1))
-yields_through s n a b f =
-    let l : range_inclusive_left gap s ≡ n + 1 = rw f (omega arith) in
-    let k : range_with_len (range_inclusive_start s) (range_inclusive_left gap s) ≡ range_with_len 0 (n + 1) = rw (l, a) refl in
-    rw k at (yields_up s)
 
 down_next : (a n m x : ℕ) → n ≡ m + 1 → x ≡ a + m → down_from a n ≡ x ∷ down_from a m
 down_next a n m x e q = let k : n ≡ suc m = omega arith in rw (k, q) refl
@@ -63,28 +38,22 @@ yields_below s n h =
     let l : down s ≡ down_from 0 n = rw (k, h) refl in
     rw l at (yields_down s)
 
-range_more : (a n : ℕ) → range_with_len a (suc n) ≡ range_with_len a n ++ (a + n) ∷ []
-range_more a zero = let z : a + 0 ≡ a = omega arith in rw z refl
-range_more a (suc n) = let z : a + suc n ≡ a + 1 + n = omega arith in rw z (ap (λ xs. a ∷ xs) (range_more (a + 1) n))
-
 module _ (e : ℕ → ℕ) (i : ℕ) where
   abbrev spans : ℕ → Bool
   spans j = nat_lt i (e j)
 
-  one : (b : Bool) (n : ℕ) (xs : List ℕ) → length xs + length (cond b (n ∷ []) []) ≡ length (cond b (n ∷ xs) xs)
-  one true n xs = omega arith
-  one false n xs = omega arith
+  counted : (b : Bool) (n k : ℕ) (xs : List ℕ) → k ≡ length xs → b ≡ true → k + 1 ≡ length (cond b (n ∷ xs) xs)
+  counted b n k xs h t = rw t (omega arith)
 
-  -- so many nodes below n span i
-  pub spanning : (n : ℕ) → length (filter spans (range_with_len 0 n)) ≡ length (around e i n)
-  spanning zero = refl
-  spanning (suc n) =
-      let z : 0 + n ≡ n = omega arith in
-      ap (λ xs. length (filter spans xs)) (rw z at (range_more 0 n))
-      ∙ ap length (filter-append spans (range_with_len 0 n) (n ∷ []))
-      ∙ length-append (filter spans (range_with_len 0 n)) (filter spans (n ∷ []))
-      ∙ ap (λ k. k + length (filter spans (n ∷ []))) (spanning n)
-      ∙ one (spans n) n (around e i n)
+  left_out : (b : Bool) (n k : ℕ) (xs : List ℕ) → k ≡ length xs → b ≡ false → k ≡ length (cond b (n ∷ xs) xs)
+  left_out b n k xs h f = rw f h
+
+  -- one node more, n, among those that are counted below it
+  pub spanning_too : (n k : ℕ) → k ≡ length (around e i n) → nat_lt i (e n) ≡ true → k + 1 ≡ length (around e i (n + 1))
+  spanning_too n k h t = let z : n + 1 ≡ suc n = omega arith in rw z (counted (spans n) n k (around e i n) h t)
+
+  pub not_spanning_too : (n k : ℕ) → k ≡ length (around e i n) → nat_lt i (e n) ≡ false → k ≡ length (around e i (n + 1))
+  not_spanning_too n k h f = let z : n + 1 ≡ suc n = omega arith in rw z (left_out (spans n) n k (around e i n) h f)
 
   pick : (b : Bool) (n m : ℕ) (o : Option ℕ) → unwrap_or o 0 ≡ m → unwrap_or (cond b (Some n) o) 0 ≡ cond b n m
   pick true n m o h = refl

@@ -56,7 +56,12 @@ impl<'a> Verdict<'a, Rule<'a>, Refusal> {
         ensures found { Checking result.found file.now }
         ensures over { file_of result.reader ≡ file.now }
     {
-        Verdict::of(file, check(file))
+        // Kept: made in place, since a rule that is handed to `of` is one more table that is cleared and copied.
+        let reader = Reader::over(file);
+        Verdict {
+            reader,
+            found: check(file),
+        }
     }
 }
 

@@ -52,9 +52,9 @@ pub(crate) fn check(reader: &Reader) -> Result<(), Finding<FileFault>>
     ensures { result ≡ passes_unless (first_among head_causes (file_of reader.now)) }
 {
     let file = reader.file();
-    let contents = reader.contents();
     whole(FileFault::FileSize, is_sized(file))?;
     whole(FileFault::Edition, is_edition_one(file))?;
+    let contents = reader.contents();
     whole(FileFault::BodyOrder, is_contiguous(file.len(), contents))?;
     whole(FileFault::NodeCount, is_counted(contents))
 }

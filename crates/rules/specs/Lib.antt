@@ -1,3 +1,4 @@
+pub mod Violations
 pub mod Tables
 pub mod Scopes
 pub mod Types

@@ -11,7 +11,7 @@ use Rattle.nodes.specs.Tree.{parent, children}
 use Rattle.rules.specs.Tables.{Table, node, kind_at, end, any}
 use Rattle.rules.specs.Scopes.{meant, repeated, in_loop, method_of}
 use Rattle.rules.specs.Types.{tagged, fits, all_fit, of_one_type, of_one_number_type, fit_each, has_type}
-use Rattle.node_rules.specs.Violations.{rules}
+use Rattle.rules.specs.Violations.{rules}
 use Rattle.node_rules.specs.declared.types.Ty.{Ty}
 use Rattle.node_rules.specs.declared.types.Ty.TheVariants.{Int, Bool as Truth}
 use Rattle.node_rules.specs.declared.violation.Violation.{Violation}

@@ -6,7 +6,8 @@
 // every node.
 #![tactic(auto)]
 
-pub use node_rules::{types, violation};
+pub use node_rules::types;
 
 pub mod laws;
+pub mod violation;
 pub mod worked;

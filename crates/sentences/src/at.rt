@@ -6,17 +6,41 @@ use std::iter;
 use wording::outline;
 use wording::words::MOST_NODES;
 
-/// A node of a file of any bytes, by its number.
+/// A node of a file of any bytes, by its number, with the body of all nodes, which is found once.
 #[derive(Clone, Copy)]
 pub(crate) struct At<'a> {
     pub(crate) reader: Reader<'a>,
+    pub(crate) nodes: &'a [u8],
     pub(crate) i: u32,
 }
 
+// The node at a place in a body of nodes; none where there is no such node, or its kind is unknown.
+fn node_in(nodes: &[u8], i: usize) -> Option<Node> {
+    Node::decode(nodes.as_chunks::<16>().0.get(i)?)
+}
+
 impl<'a> At<'a> {
+    /// Node `i` of a file.
+    pub(crate) fn of(reader: Reader<'a>, i: u32) -> At<'a> {
+        At {
+            reader,
+            nodes: reader.node_body(),
+            i,
+        }
+    }
+
+    /// Another node of the file.
+    pub(crate) fn other(self, i: u32) -> At<'a> {
+        At {
+            reader: self.reader,
+            nodes: self.nodes,
+            i,
+        }
+    }
+
     /// The node itself; none where there is no such node, or its kind is unknown.
     pub(crate) fn node(self) -> Option<Node> {
-        self.reader.node(self.i as usize)
+        node_in(self.nodes, self.i as usize)
     }
 
     /// Its record, which is empty where there is no such node.
@@ -26,20 +50,12 @@ impl<'a> At<'a> {
 
     /// One past the last node that it spans.
     pub(crate) fn end(self) -> usize {
-        outline::end_of(self.reader.node_body(), self.i)
+        outline::end_of(self.nodes, self.i)
     }
 
     /// The innermost node that it lies in.
     pub(crate) fn parent(self) -> At<'a> {
-        self.other(outline::parent(self.reader.node_body(), self.i))
-    }
-
-    // Another node of the file.
-    fn other(self, i: u32) -> At<'a> {
-        At {
-            reader: self.reader,
-            i,
-        }
+        self.other(outline::parent(self.nodes, self.i))
     }
 
     // The node, where it is a method.
@@ -91,13 +107,16 @@ impl<'a> At<'a> {
 
     /// How many children it has by the sizes. No more are counted than a rule has nodes, so that sizes of 0 do no harm.
     pub(crate) fn child_count(self) -> usize {
+        let nodes = self.nodes;
         let end = self.end();
-        let reader = self.reader;
-        iter::successors(Some(self.i as usize + 1), |child| {
-            Some(child.saturating_add(reader.node(*child)?.size as usize))
-        })
-        .take_while(|child| *child < end && reader.node(*child).is_some())
-        .take(MOST_NODES as usize)
-        .count()
+        // The place of a child and where it ends, so that each is read once.
+        let child_at = |child: usize| {
+            let size = node_in(nodes, child)?.size;
+            Some((child, child.saturating_add(size as usize)))
+        };
+        iter::successors(child_at(self.i as usize + 1), |(_, next)| child_at(*next))
+            .take_while(|(child, _)| *child < end)
+            .take(MOST_NODES as usize)
+            .count()
     }
 }

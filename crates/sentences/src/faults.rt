@@ -14,10 +14,7 @@ use wording::{outline, words};
 
 /// The sentence on a fault.
 pub fn sentence<'a>(reader: Reader<'a>, finding: Finding<FileFault>) -> Sentence<'a> {
-    let at = At {
-        reader,
-        i: finding.place,
-    };
+    let at = At::of(reader, finding.place);
     Sentence::two(subject(at, finding.cause), claim(at, finding.cause))
 }
 
@@ -45,7 +42,7 @@ fn node_place<'a>(at: At<'a>) -> Phrase<'a> {
         Some(node) => words::noun(node.kind),
         None => "of no known kind",
     };
-    let depth = outline::depth(at.reader.node_body(), at.i);
+    let depth = outline::depth(at.nodes, at.i);
     Three(
         Piece::Number("node ", at.i as i64, ", "),
         Piece::Words(noun),
@@ -55,7 +52,11 @@ fn node_place<'a>(at: At<'a>) -> Phrase<'a> {
 
 // What is wrong with it.
 fn claim<'a>(at: At<'a>, cause: FileFault) -> Phrase<'a> {
-    let At { reader, i: place } = at;
+    let At {
+        reader,
+        i: place,
+        ..
+    } = at;
     match cause {
         FileFault::FileSize => Three(
             Piece::Words("file has "),
@@ -247,7 +248,7 @@ fn against_value(rule: Value) -> &'static str {
 }
 
 fn size<'a>(at: At<'a>) -> Phrase<'a> {
-    let size = outline::size_of(at.reader.node_body(), at.i) as i64;
+    let size = outline::size_of(at.nodes, at.i) as i64;
     if at.i == 0 {
         let all = Piece::count(", and node 0 spans all ", at.reader.node_count(), " nodes");
         return Phrase::two(Piece::Number("the size ", size, ""), all);

@@ -5,15 +5,12 @@ use layout::reader::Reader;
 use node_rules::violation::Violation;
 use nodes::kind::Kind;
 use wording::text::{Phrase, Piece, Sentence, Three};
+use wording::words;
 use wording::words::MOST_NODES;
-use wording::{outline, words};
 
 /// The sentence on a violation.
 pub fn sentence<'a>(reader: Reader<'a>, finding: Finding<Violation>) -> Sentence<'a> {
-    let at = At {
-        reader,
-        i: finding.place,
-    };
+    let at = At::of(reader, finding.place);
     match finding.cause {
         Violation::TooManyCells => Sentence::one(too_many_cells(reader)),
         cause => Three(
@@ -118,9 +115,11 @@ fn too_many_cells<'a>(reader: Reader<'a>) -> Phrase<'a> {
 
 // One cell for a scalar of the program's own and its length for an array.
 fn own_cells(reader: Reader) -> i64 {
+    let program = At::of(reader, 0);
     (1..MOST_NODES)
-        .filter(|i| outline::parent(reader.node_body(), *i) == 0)
-        .map(|i| cells(At { reader, i }))
+        .map(|i| program.other(i))
+        .filter(|at| at.parent().i == 0)
+        .map(cells)
         .fold(0, i64::saturating_add)
 }
 

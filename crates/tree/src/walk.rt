@@ -36,6 +36,8 @@ pub(crate) struct Walk<'a> {
     next: u16,
     stack: [u16; MOST_NODES],
     top: usize,
+    // Kept: how far the top node spans, which is asked at each step, and is known where a node is met.
+    limit: usize,
     ghost within: { next ≤ body.len },
     ghost slots: { length stack ≡ 1024 },
     ghost room: { top < next },
@@ -43,6 +45,7 @@ pub(crate) struct Walk<'a> {
     ghost rising: { (k : ℕ) → k < top → slice_index stack k < slice_index stack (k + 1) },
     ghost upward: { (k : ℕ) → k < top → slice_index stack k ≡ parent (end_of body.nodes.now) (slice_index stack (k + 1)) },
     ghost lower: { slice_index stack top < next },
+    ghost told: { limit ≡ end_of body.nodes.now (slice_index stack top) },
     ghost past: { (k : ℕ) → slice_index stack top < k → k < next → end_of body.nodes.now k ≤ next },
 }
 
@@ -59,14 +62,8 @@ impl<'a> Walk<'a> {
             // Kept: as at the struct.
             stack: [0; MOST_NODES],
             top: 0,
+            limit: end_of(body.nodes, 0),
         }
-    }
-
-    // Where the node on top ends.
-    fn top_end(&self) -> usize
-        ensures { result ≡ end_of self.now.body.nodes.now (slice_index self.now.stack self.now.top) }
-    {
-        end_of(self.body.nodes, u32::from(self.stack[self.top]))
     }
 
     // Leaves the nodes that do not span the next one. The top one is then its parent.
@@ -76,8 +73,9 @@ impl<'a> Walk<'a> {
         ensures body { self.new.body ≡ self.old.body }
         ensures next { self.new.next ≡ self.old.next }
     {
-        while self.top > 0 && self.top_end() <= self.next as usize {
+        while self.top > 0 && self.limit <= self.next as usize {
             self.top -= 1;
+            self.limit = end_of(self.body.nodes, u32::from(self.stack[self.top]));
         }
     }
 }
@@ -97,13 +95,15 @@ impl Iterator for Walk<'_> {
         }
         self.close();
         let node = self.next;
-        let limit = self.top_end();
+        let limit = self.limit;
+        let stop = end_of(self.body.nodes, u32::from(node));
         self.top += 1;
         self.stack[self.top] = node;
+        self.limit = stop;
         self.next += 1;
         Some(Met {
             node,
-            stop: end_of(self.body.nodes, u32::from(node)),
+            stop,
             limit,
             depth: self.top + 1,
         })

@@ -175,13 +175,15 @@ fn tag_of<'a>(node: Node) -> Piece<'a> {
     }
 }
 
+// A name is looked up only where the kind has one: that takes a walk over the names.
 fn name_of<'a>(reader: Reader<'a>, node: Node) -> Piece<'a> {
-    let number = node.name as i64;
-    match reader.name(node.name as u32) {
-        Some(text) if node.kind.fields().named => Piece::Bytes(" ", text, ""),
-        None if node.kind.fields().named => Piece::Number(" name ", number, "?"),
-        _ if number == 0 => Piece::default(),
-        _ => Piece::Number(" name ", number, ""),
+    match node.name {
+        name if node.kind.fields().named => match reader.name(name as u32) {
+            Some(text) => Piece::Bytes(" ", text, ""),
+            None => Piece::Number(" name ", name as i64, "?"),
+        },
+        0 => Piece::default(),
+        name => Piece::Number(" name ", name as i64, ""),
     }
 }
 

@@ -1,19 +1,18 @@
-use Rattle.std.proofs.Common.{◌≡◌, ℕ, true, false, cond, eqb, List, [], ◌∷◌, None, Option, refl, ◌∙◌, rules}
-use Rattle.std.specs.List.{filter, fold}
+use Rattle.std.proofs.Common.{◌≡◌, ℕ, cond, eqb, List, [], ◌∷◌, None, Option, refl, ◌∙◌, rules, tests}
+use Rattle.std.specs.List.{fold}
+use Rattle.std.proofs.lemmas.Iterator.{YieldsList-from_slice}
+use Rattle.std.proofs.lemmas.Iterator.Consumers.{fold_from_yields_List}
 use Rattle.node_rules.specs.Scopes.{inner, chosen}
 use Rattle.node_rules.specs.declared.binding.Binding.{Binding}
 use Rattle.names.proofs.lookup.chosen.Goals as goal
 
--- a choice among all is one among those of the name
-fold_named : (name : ℕ) (best : Option Binding) (bs : List Binding) → fold inner best (filter (λ b. eqb b.name name) bs) ≡ chosen name best bs
-fold_named name best [] = refl
-fold_named name best (b ∷ bs) =
-    elim (eqb b.name name) as (λ t. fold inner best (cond t (b ∷ filter (λ b. eqb b.name name) bs) (filter (λ b. eqb b.name name) bs)) ≡ chosen name (cond t (inner best b) best) bs) [
-      | true ↦ fold_named name (inner best b) bs
-      | false ↦ fold_named name best bs
-    ]
+-- a choice is a fold
+fold_chosen : (name : ℕ) (best : Option Binding) (bs : List Binding) → fold (λ a (b : Binding). cond (eqb b.name name) (inner a b) a) best bs ≡ chosen name best bs
+fold_chosen name best [] = refl
+fold_chosen name best (b ∷ bs) = fold_chosen name (cond (eqb b.name name) (inner best b) best) bs
 
 pub returns : goal.returns
 returns c =
-    let mirrored : c.fold.result ≡ fold inner None (filter (λ b. eqb b.name c.args.name) c.args.in_force.now) = search rules in
-    mirrored ∙ fold_named c.args.name None c.args.in_force.now
+    let name = c.args.name in
+    fold_from_yields_List _ (λ a (b : Binding). cond (eqb b.name name) (inner a b) a) None c.fold.result c.fold.ensures.ran (YieldsList-from_slice c.args.in_force.now cc) (λ a x b q k. search (rules, tests))
+    ∙ fold_chosen name None c.args.in_force.now

@@ -1,69 +1,64 @@
-use Rattle.std.proofs.Common.{◌≡◌, ◌-◌, IsOk, true, false, Some, hash_map_len, to_z, of_z, w32, refl, ◌∙◌, rules}
-use Rattle.std.proofs.lemmas.Result.{IfOk-at_ok}
-use Rattle.std.specs.HashMap.{Updates}
+use Rattle.std.proofs.Common.{◌≡◌, ◌-◌, vec_items, vec_len, arith, rules}
+use Rattle.std.specs.List.{insert}
+use Rattle.book_makes.specs.Piles.{slip_of}
 use Rattle.std.proofs.lemmas.Int.{to_z-of_z}
-use Rattle.book_makes.specs.Piles.{holds, same_spot}
-use Rattle.book_makes.proofs.Filling.{on_ok, anew, first, inside}
-use Rattle.book_makes.proofs.Counting.{room_left}
+use Rattle.book_makes.proofs.Heaps.{put_set, put_insert, put_full}
+use Rattle.book_makes.proofs.Orders.{none_in_gap, inside_set, ordered_set, inside_insert, ordered_insert, single_in_order}
 use Rattle.book_makes.proofs.slips.SlipsBook.put_at.Goals as goal
+
+pub returns-then-len-self : goal.returns-then-len-self
+returns-then-len-self c =
+    let b = c.args.self.now in
+    let none = none_in_gap (vec_items b.pile) c.args.spot c.in-Err.i c.in-Err.ensures.absent in
+    let p = put_full b.lots (b.most - vec_len b.pile) (vec_items b.pile) c.args.spot c.args.value none (omega (arith, c.len.ensures)) in
+    record { answer = p.0; after = p.1 }
+
+pub invariant_of-self-in-Err : goal.invariant_of-self-in-Err
+invariant_of-self-in-Err c =
+    let b = c.args.self.now in
+    let fits = c.ranges.value in
+    let inside = inside_insert (vec_items b.pile) c.args.spot c.args.value c.in-Err.i c.in-Err.ensures.absent b.lots b.inside c.requires in
+    let ordered = ordered_insert (vec_items b.pile) c.args.spot c.args.value c.in-Err.i c.in-Err.ensures.absent b.ordered in
+    let one = single_in_order _ ordered in
+    let is : vec_items c.insert-filled.new.self ≡ insert (vec_items b.pile) c.in-Err.i (slip_of c.args.spot c.args.value) = search rules in
+    record {
+      few = b.few;
+      within = search rules;
+      room = search rules;
+      inside = rw is inside;
+      ordered = rw is ordered;
+      one = rw is one;
+    }
+
+pub returns-in-Ok : goal.returns-in-Ok
+returns-in-Ok c =
+    let b = c.args.self.now in
+    let fits = c.ranges.value in
+    let p = put_set b.lots (b.most - vec_len b.pile) (vec_items b.pile) c.args.spot c.args.value c.in-Ok.i c.in-Ok.ensures.found in
+    record { answer = p.0; after = simp (c.fill_in-slip.ensures, to_z-of_z) p.1 }
+
+pub returns-else-len-self : goal.returns-else-len-self
+returns-else-len-self c =
+    let b = c.args.self.now in
+    let fits = c.ranges.value in
+    let none = none_in_gap (vec_items b.pile) c.args.spot c.in-Err.i c.in-Err.ensures.absent in
+    let p = put_insert b.lots (b.most - vec_len b.pile) (vec_items b.pile) c.args.spot c.args.value c.in-Err.i none (omega (arith, c.len.ensures)) in
+    let fewer : b.most - vec_len c.insert-filled.new.self ≡ b.most - vec_len b.pile - 1 = search rules in
+    let is : vec_items c.insert-filled.new.self ≡ insert (vec_items b.pile) c.in-Err.i (slip_of c.args.spot c.args.value) = search rules in
+    record { answer = p.0; after = simp (is, fewer) p.1 }
 
 pub invariant_of-self : goal.invariant_of-self
 invariant_of-self c =
     let b = c.args.self.now in
-    let v = to_z w32 (of_z w32 c.args.value) in
-    let written = c.get_mut.follows.holds v in
-    let writes = written.3 (search rules) in
+    let fits = c.ranges.value in
+    let inside = inside_set b.lots (vec_items b.pile) b.inside b.ordered c.args.spot c.requires c.args.value c.in-Ok.i c.in-Ok.ensures.found in
+    let ordered = ordered_set b.lots (vec_items b.pile) b.inside b.ordered c.args.spot c.requires c.args.value c.in-Ok.i c.in-Ok.ensures.found in
+    let one = single_in_order _ ordered in
     record {
       few = b.few;
-      within = search rules;
-      inside = inside b.lots 0 b.slips (c.get_mut.follows.lender v) c.args.spot v writes.0 b.lots c.requires.0 c.requires.1 b.inside;
-      room = search rules;
+      within = b.within;
+      room = b.room;
+      inside = simp (c.fill_in-slip.ensures, to_z-of_z) inside;
+      ordered = simp (c.fill_in-slip.ensures, to_z-of_z) ordered;
+      one = simp (c.fill_in-slip.ensures, to_z-of_z) one;
     }
-
-pub invariant_of-self-2 : goal.invariant_of-self-2
-invariant_of-self-2 c =
-    let b = c.args.self.now in
-    let v = to_z w32 (of_z w32 c.args.value) in
-    let old = c.get_mut.follows.lender-at-none in
-    let slips = c.insert-filled.new.self in
-    let none : holds b.slips c.args.spot.column c.args.spot.lot ≡ false = search rules in
-    let left = room_left b.lots b.slips c.args.spot b.inside c.requires.0 c.requires.1 b.most c.get_mut.ensures.unique none (search rules) b.room in
-    let ok : IsOk c.insert-filled.result = search rules in
-    let updates : Updates same_spot old slips c.args.spot (Some v) = on_ok c.insert-filled.result ok c.insert-filled.ensures.updates in
-    record {
-      few = b.few;
-      within = search rules;
-      inside = inside b.lots 0 b.slips slips c.args.spot v (λ spot. updates.0 spot ∙ simp c.get_mut.follows.holds-at-none refl) b.lots c.requires.0 c.requires.1 b.inside;
-      room = search rules;
-    }
-
-pub unwrap-requires : goal.unwrap-requires
-unwrap-requires c =
-    let b = c.args.self.now in
-    let none : holds b.slips c.args.spot.column c.args.spot.lot ≡ false = search rules in
-    let left = room_left b.lots b.slips c.args.spot b.inside c.requires.0 c.requires.1 b.most c.get_mut.ensures.unique none (search rules) b.room in
-    search rules
-
-pub returns-in-Some-clause-after : goal.returns-in-Some-clause-after
-returns-in-Some-clause-after c =
-    let b = c.args.self.now in
-    let fits = c.ranges.value in
-    let v = c.args.value in
-    let has : holds b.slips c.args.spot.column c.args.spot.lot ≡ true = search rules in
-    let written = c.get_mut.follows.holds v in
-    let slips = c.get_mut.follows.lender v in
-    let same : b.most - hash_map_len slips ≡ b.most - hash_map_len b.slips = search rules in
-    let is = anew b.lots (b.most - hash_map_len b.slips) b.slips slips c.args.spot v (written.3 (search rules)).0 has in
-    simp (to_z-of_z, same) is
-
-pub returns-clause-after : goal.returns-clause-after
-returns-clause-after c =
-    let b = c.args.self.now in
-    let fits = c.ranges.value in
-    let old = c.get_mut.follows.lender-at-none in
-    let slips = c.insert-filled.new.self in
-    let none : holds b.slips c.args.spot.column c.args.spot.lot ≡ false = search rules in
-    let fewer : b.most - hash_map_len slips ≡ b.most - hash_map_len b.slips - 1 = search rules in
-    let updates = IfOk-at_ok (λ _. Updates same_spot old slips c.args.spot (Some (to_z w32 (of_z w32 c.args.value)))) c.unwrap.ensures c.insert-filled.ensures.updates in
-    let is = first b.lots (b.most - hash_map_len b.slips) b.slips slips c.args.spot c.args.value (λ spot. updates.0 spot ∙ simp (to_z-of_z, c.get_mut.follows.holds-at-none) refl) none (search rules) in
-    simp fewer is

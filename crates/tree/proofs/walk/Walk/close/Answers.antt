@@ -15,8 +15,8 @@ invariant_of-self-clause-past c =
     let r : s.top - 1 + 1 ≡ s.top = omega arith in
     past_up (end_of s.body.nodes.now) s.next (slice_index s.stack s.top) _ (rw r at (s.upward (s.top - 1) (omega arith))) s.lower (omega arith) s.past
 
-pub returns-else-top_end-self-clause-parent : goal.returns-else-top_end-self-clause-parent
-returns-else-top_end-self-clause-parent c =
+pub returns-else-self-clause-parent : goal.returns-else-self-clause-parent
+returns-else-self-clause-parent c =
     let s = c.loop-self.self in
     sym (parent_is (end_of s.body.nodes.now) s.next (slice_index s.stack s.top) s.lower s.past (inr (omega arith)))
 
